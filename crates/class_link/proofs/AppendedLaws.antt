@@ -9,7 +9,7 @@ use Rattle.class_model.specs.declared.instruction.Insn.{Insn}
 use Rattle.class_model.specs.declared.instruction.Arg.{Arg}
 use Rattle.class_model.specs.declared.instruction.Arg.TheVariants as arg
 use Rattle.class_model.specs.Pool.{entry_of, text_in, class_in, pair_in, text_of, class_name_of, pair_name_of, pair_desc_of, IsEntry, IsPoolForm}
-use Rattle.class_link.specs.Symbols.{Symbol, IsText, IsClass, IsField, IsMethod, name_or_empty, field_ref, method_ref, symbol_in, symbol_or_other, symbol_at}
+use Rattle.class_link.specs.Symbols.{Symbol, IsText, IsClass, IsField, IsMethod, IsDynamic, name_or_empty, field_ref, method_ref, dynamic_ref, symbol_in, symbol_or_other, symbol_at}
 use Rattle.class_link.specs.Opcodes.{with_operand, with_symbol, with_count, instruction_by, instruction_in}
 use Rattle.class_link.specs.Appended.{NamesWithin}
 
@@ -39,6 +39,9 @@ some_of P (Some x) h = refl
 
 three : (f : Option Name → Option Name → Option Name → Symbol) (a a' b b' c c' : Option Name) → a ≡ a' → b ≡ b' → c ≡ c' → f a b c ≡ f a' b' c'
 three f a a' b b' c c' p q r = ap (λ x. f x b c) p ∙ ap (λ x. f a' x c) q ∙ ap (f a' b') r
+
+two : (f : Option Name → Option Name → Symbol) (a a' b b' : Option Name) → a ≡ a' → b ≡ b' → f a b ≡ f a' b'
+two f a a' b b' p q = ap (λ x. f x b) p ∙ ap (f a') q
 
 module _ (pool more : List Const) where
   place_case : (b : Bool) (k : ℕ) (c : Const) → (if b then None else slice_get pool k) ≡ Some c → (if b then None else slice_get (pool ++ more) k) ≡ Some c
@@ -119,7 +122,9 @@ module _ (pool more : List Const) where
   symbol_kept (const.Pair name desc) form h = refl
   symbol_kept (const.Handle kind member) form h = refl
   symbol_kept (const.MethodKind desc) form h = refl
-  symbol_kept (const.Dynamic bootstrap pair) form h = refl
+  symbol_kept (const.Dynamic bootstrap pair) form h =
+      let desc = some_of _ (pair_desc_of pool pair) h.1 in
+      two (λ a b. IsDynamic (dynamic_ref bootstrap (name_or_empty a) (name_or_empty b))) _ _ _ _ (name_kept pair (pair_named pair form desc)) (desc_kept pair desc)
   symbol_kept const.Second form h = refl
 
   meaning_case : (i : ℕ) (o : Option Const) → entry_of pool i ≡ o → IsPoolForm pool → symbol_or_other (pool ++ more) o ≡ symbol_or_other pool o

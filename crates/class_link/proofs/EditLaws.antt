@@ -28,7 +28,7 @@ use Rattle.class_link.specs.Edits.{with_attrs_at, with_attrs, class_added, class
 use Rattle.class_link.specs.Indices.{is_within, is_body_within, is_method_within}
 use Rattle.class_link.specs.Info.{Info, IsInfo, HasEntries, body_name, link_body}
 use Rattle.class_link.specs.Linking.{link, method_in}
-use Rattle.class_link.specs.Opcodes.{on_text, on_class, on_field, on_method}
+use Rattle.class_link.specs.Opcodes.{on_text, on_class, on_field, on_method, on_dynamic}
 use Rattle.class_link.specs.Switches.{AreEntries}
 use Rattle.class_link.specs.Symbols.{IsOther, symbol_in}
 use Rattle.class_link.specs.View.{symbol_of, entry_symbol, meaning_at, instruction_of, method_of, body_of, code_of, linked_of}
@@ -89,6 +89,7 @@ module _ (es more : List Entry) where
   instruction_front ss (ins.InvokeInterface k) h = ap (on_method def.InvokeInterface) (meaning_front k h)
   instruction_front ss (ins.InvokeSpecial k) h = ap (on_method def.InvokeSpecial) (meaning_front k h)
   instruction_front ss (ins.InvokeStatic k) h = ap (on_method def.InvokeStatic) (meaning_front k h)
+  instruction_front ss (ins.InvokeDynamic k) h = ap on_dynamic (meaning_front k h)
   instruction_front ss (ins.New k) h = ap (on_class def.New) (meaning_front k h)
   instruction_front ss (ins.NewReferenceArray k) h = ap (on_class def.NewReferenceArray) (meaning_front k h)
   instruction_front ss (ins.CheckCast k) h = ap (on_class def.CheckCast) (meaning_front k h)

@@ -1,5 +1,6 @@
 pub mod AppendedLaws
 pub mod EditLaws
+mod BootLaws
 pub mod FormLaws
 pub mod Resolved
 pub mod LineLaws

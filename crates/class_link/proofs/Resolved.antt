@@ -65,6 +65,7 @@ by_entry (Some (entry.Text t)) = refl
 by_entry (Some (entry.Class n)) = refl
 by_entry (Some (entry.Field r)) = refl
 by_entry (Some (entry.Method r)) = refl
+by_entry (Some (entry.Dynamic r)) = refl
 
 by_constant : (pool : List Const) (o : Option Const) → class_symbol (symbol_or_other pool o) ≡ name_or_empty (option_and_then (text_of pool) (option_and_then class_in o))
 by_constant pool None = refl

@@ -17,7 +17,7 @@ use Rattle.library_rules.specs.Numbered.{meaning_numbered}
 use Rattle.class_link.specs.declared.loaded.LibBody.{LibBody}
 use Rattle.class_link.specs.declared.loaded.LibBody.TheVariants as lib
 use Rattle.class_link.specs.declared.loaded.LibClass.{LibClass}
-use Rattle.class_link.specs.Symbols.{Symbol, IsOther, IsInteger, IsLong, IsText, IsClass, IsField, IsMethod, symbol_or_other, symbol_at}
+use Rattle.class_link.specs.Symbols.{Symbol, IsOther, IsInteger, IsLong, IsText, IsClass, IsField, IsMethod, IsDynamic, symbol_or_other, symbol_at}
 use Rattle.class_link.specs.Opcodes as op
 use Rattle.class_link.specs.Linking as linking
 use Rattle.class_link.specs.Edits.{class_edited}
@@ -102,6 +102,7 @@ symbol_stated n (IsText t) h = grind (arith)
 symbol_stated n (IsClass c) h = grind (arith)
 symbol_stated n (IsField r) h = grind (arith, h)
 symbol_stated n (IsMethod r) h = grind (arith, h)
+symbol_stated n (IsDynamic r) h = grind (arith)
 
 count_stated : (n : ℕ) (s : Symbol) (k : ℕ) → IsEntryStated s → IsStated (op.with_count n s k)
 count_stated n IsOther k h = grind (arith)
@@ -111,6 +112,7 @@ count_stated n (IsText t) k h = grind (arith)
 count_stated n (IsClass c) k h = grind (arith)
 count_stated n (IsField r) k h = grind (arith)
 count_stated n (IsMethod r) k h = grind (arith, h)
+count_stated n (IsDynamic r) k h = grind (arith)
 
 operand_stated : (pool : List Const) (n : ℕ) (a : Arg) → IsStated (op.with_operand (symbol_at pool) n a)
 operand_stated pool n arg.None = plain_stated n

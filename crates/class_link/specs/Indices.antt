@@ -19,6 +19,7 @@ index_named (code.InvokeVirtual k) = Some k
 index_named (code.InvokeInterface k) = Some k
 index_named (code.InvokeSpecial k) = Some k
 index_named (code.InvokeStatic k) = Some k
+index_named (code.InvokeDynamic k) = Some k
 index_named (code.New k) = Some k
 index_named (code.NewReferenceArray k) = Some k
 index_named (code.NewMultiArray k n) = Some k

@@ -1,5 +1,7 @@
 pub mod Symbols
 pub mod Opcodes
+pub mod Bootstraps
+pub mod Boots
 pub mod Linking
 pub mod View
 pub mod Switches

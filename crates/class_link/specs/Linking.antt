@@ -30,6 +30,7 @@ use Rattle.class_link.specs.declared.loaded.LibField.{LibField}
 use Rattle.class_link.specs.declared.loaded.LibClass.{LibClass}
 use Rattle.class_link.specs.Symbols.{kind_of, kind_stated, type_stated, class_named, text_named}
 use Rattle.class_link.specs.Opcodes.{instruction_in}
+use Rattle.class_link.specs.Bootstraps.{bootstraps_in}
 
 -- ---- code (JVMS 4.7.3, 4.7.4, 4.7.12)
 
@@ -169,6 +170,7 @@ link c = record {
   interfaces = map (class_named c.pool) c.interfaces;
   fields = map (field_in c.pool) c.fields;
   methods = map (method_in c.pool) c.methods;
+  bootstraps = bootstraps_in c;
 }
 
 -- ---- classes of the library (this project's own)
@@ -201,4 +203,5 @@ link_library c = record {
   interfaces = c.interfaces;
   fields = map library_field c.fields;
   methods = map (library_method c.pool) c.methods;
+  bootstraps = [];
 }

@@ -17,7 +17,7 @@ use Rattle.class_link.specs.declared.linked.LinkedMethod.{LinkedMethod}
 use Rattle.class_link.specs.declared.loaded.LibBody.{LibBody}
 use Rattle.class_link.specs.declared.loaded.LibMethod.{LibMethod}
 use Rattle.class_link.specs.Linking as linking
-use Rattle.class_link.specs.Symbols.{IsField, IsMethod, name_or_empty, class_named, field_ref, method_ref}
+use Rattle.class_link.specs.Symbols.{IsField, IsMethod, IsDynamic, name_or_empty, class_named, field_ref, method_ref, dynamic_ref}
 use Rattle.class_link.specs.View.{symbol_of, constant_of, code_of, body_of, method_of}
 
 -- ---- entries
@@ -40,6 +40,11 @@ NamesMethod pool class pair interface e =
     symbol_of e
     ≡ IsMethod (method_ref interface (class_named pool class) (name_in_pair pool pair)
     (desc_in_pair pool pair))
+
+-- The same of a call site's entry, whose first number is that of a bootstrap method.
+abbrev pub NamesDynamic : List Const → ℕ → ℕ → Entry → Type 0
+NamesDynamic pool bootstrap pair e =
+    symbol_of e ≡ IsDynamic (dynamic_ref bootstrap (name_in_pair pool pair) (desc_in_pair pool pair))
 
 -- ---- fields
 

@@ -8,13 +8,13 @@ use Rattle.class_model.specs.declared.instruction.Arg.{Arg}
 use Rattle.class_model.specs.declared.instruction.Arg.TheVariants as arg
 use Rattle.program_rules.specs.Names.{Name}
 use Rattle.program_rules.specs.Kinds.{OfBoolean, OfByte, OfChar, OfShort, OfInt, OfLong}
-use Rattle.program_rules.specs.Instructions.{FieldRef, MethodRef, Instruction, Nop, NullConstant, IntConstant, LongConstant, TextConstant, ClassConstant, IntLoad, LongLoad, ReferenceLoad, IntStore, LongStore, ReferenceStore, ArrayLoad, ArrayStore, Pop, Pop2, Dup, DupX1, DupX2, Dup2, Dup2X1, Dup2X2, Swap, IntOperation, LongOperation, IntNegate, LongNegate, IntShift, LongShift, Increment, Convert, LongCompare, IfInt, IfInts, IfSame, IfNotSame, IfNull, IfNotNull, Goto, TableSwitch, LookupSwitch, IntReturn, LongReturn, ReferenceReturn, PlainReturn, GetStatic, PutStatic, GetField, PutField, InvokeVirtual, InvokeInterface, InvokeSpecial, InvokeStatic, New, NewArray, NewReferenceArray, NewMultiArray, ArrayLength, Throw, CheckCast, InstanceOf, MonitorEnter, MonitorExit, Unlinked}
+use Rattle.program_rules.specs.Instructions.{FieldRef, MethodRef, Instruction, Nop, NullConstant, IntConstant, LongConstant, TextConstant, ClassConstant, IntLoad, LongLoad, ReferenceLoad, IntStore, LongStore, ReferenceStore, ArrayLoad, ArrayStore, Pop, Pop2, Dup, DupX1, DupX2, Dup2, Dup2X1, Dup2X2, Swap, IntOperation, LongOperation, IntNegate, LongNegate, IntShift, LongShift, Increment, Convert, LongCompare, IfInt, IfInts, IfSame, IfNotSame, IfNull, IfNotNull, Goto, TableSwitch, LookupSwitch, IntReturn, LongReturn, ReferenceReturn, PlainReturn, GetStatic, PutStatic, GetField, PutField, InvokeVirtual, InvokeInterface, InvokeSpecial, InvokeStatic, InvokeDynamic, New, NewArray, NewReferenceArray, NewMultiArray, ArrayLength, Throw, CheckCast, InstanceOf, MonitorEnter, MonitorExit, Unlinked}
 use Rattle.program_rules.specs.declared.operation.Operation.TheVariants.{Plus, Minus, Times, Divide, Remainder, BitAnd, BitOr, BitXor}
 use Rattle.program_rules.specs.declared.operation.ShiftKind.TheVariants.{ShiftLeft, ShiftRight, ShiftUnsigned}
 use Rattle.program_rules.specs.declared.operation.Comparison.TheVariants.{IsEqual, IsUnequal, IsLess, IsAtLeast, IsGreater, IsAtMost}
 use Rattle.program_rules.specs.declared.operation.Conversion.TheVariants.{IntToLong, LongToInt, IntToByte, IntToChar, IntToShort}
 use Rattle.program_rules.specs.declared.operation.Element.TheVariants.{IntElement, LongElement, ReferenceElement, ByteElement, CharElement, ShortElement}
-use Rattle.class_link.specs.Symbols.{Symbol, IsInteger, IsLong, IsText, IsClass, IsField, IsMethod, symbol_at}
+use Rattle.class_link.specs.Symbols.{Symbol, IsInteger, IsLong, IsText, IsClass, IsField, IsMethod, IsDynamic, symbol_at}
 
 -- ---- opcodes without an operand
 
@@ -201,6 +201,10 @@ abbrev pub on_method : (MethodRef → Instruction) → Symbol → Instruction
 on_method made (IsMethod r) = made r
 on_method made other = Unlinked
 
+abbrev pub on_dynamic : Symbol → Instruction
+on_dynamic (IsDynamic r) = InvokeDynamic r
+on_dynamic other = Unlinked
+
 abbrev pub with_symbol : ℕ → Symbol → Instruction
 with_symbol op s =
     if op == 0x12 || op == 0x13 then constant_of s
@@ -212,6 +216,7 @@ with_symbol op s =
     else if op == 0xb6 then on_method InvokeVirtual s
     else if op == 0xb7 then on_method InvokeSpecial s
     else if op == 0xb8 then on_method InvokeStatic s
+    else if op == 0xba then on_dynamic s
     else if op == 0xbb then on_class New s
     else if op == 0xbd then on_class NewReferenceArray s
     else if op == 0xc0 then on_class CheckCast s

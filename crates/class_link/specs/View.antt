@@ -16,6 +16,8 @@ use Rattle.class_link.specs.declared.frames.FrameShape.TheVariants as shape
 use Rattle.class_link.specs.declared.frames.StatedFrame.{StatedFrame}
 use Rattle.class_link.specs.declared.linked.MethodRef.{MethodRef}
 use Rattle.class_link.specs.declared.linked.FieldRef.{FieldRef}
+use Rattle.class_link.specs.declared.linked.DynamicRef.{DynamicRef}
+use Rattle.class_link.specs.declared.linked.Bootstrap.{Bootstrap}
 use Rattle.class_link.specs.declared.linked.Entry.{Entry}
 use Rattle.class_link.specs.declared.linked.Entry.TheVariants as entry
 use Rattle.class_link.specs.declared.linked.Switch.{Switch}
@@ -30,8 +32,8 @@ use Rattle.class_link.specs.declared.linked.LinkedCode.{LinkedCode}
 use Rattle.class_link.specs.declared.linked.LinkedMethod.{LinkedMethod}
 use Rattle.class_link.specs.declared.linked.LinkedField.{LinkedField}
 use Rattle.class_link.specs.declared.linked.LinkedClass.{LinkedClass}
-use Rattle.class_link.specs.Symbols.{Symbol, IsOther, IsInteger, IsLong, IsText, IsClass, IsField, IsMethod, kind_of}
-use Rattle.class_link.specs.Opcodes.{on_text, on_class, on_field, on_method, array_of}
+use Rattle.class_link.specs.Symbols.{Symbol, IsOther, IsInteger, IsLong, IsText, IsClass, IsField, IsMethod, IsDynamic, kind_of}
+use Rattle.class_link.specs.Opcodes.{on_text, on_class, on_field, on_method, on_dynamic, array_of}
 
 -- ---- entries
 
@@ -48,6 +50,14 @@ method_ref_of r = record {
 abbrev pub field_ref_of : FieldRef → def.FieldRef
 field_ref_of r = record { class = r.class; name = r.name; desc = r.desc; kind = kind_of r.kind }
 
+abbrev pub dynamic_ref_of : DynamicRef → def.DynamicRef
+dynamic_ref_of r = record {
+  bootstrap = r.bootstrap;
+  name = r.name;
+  args = map kind_of r.args;
+  result = option_map kind_of r.result;
+}
+
 abbrev pub symbol_of : Entry → Symbol
 symbol_of entry.Other = IsOther
 symbol_of (entry.Integer z) = IsInteger z
@@ -56,6 +66,7 @@ symbol_of (entry.Text t) = IsText t
 symbol_of (entry.Class n) = IsClass n
 symbol_of (entry.Field r) = IsField (field_ref_of r)
 symbol_of (entry.Method r) = IsMethod (method_ref_of r)
+symbol_of (entry.Dynamic r) = IsDynamic (dynamic_ref_of r)
 
 abbrev pub entry_symbol : Option Entry → Symbol
 entry_symbol None = IsOther
@@ -143,6 +154,7 @@ instruction_of es ss (code.InvokeVirtual k) = on_method def.InvokeVirtual (meani
 instruction_of es ss (code.InvokeInterface k) = on_method def.InvokeInterface (meaning_at es k)
 instruction_of es ss (code.InvokeSpecial k) = on_method def.InvokeSpecial (meaning_at es k)
 instruction_of es ss (code.InvokeStatic k) = on_method def.InvokeStatic (meaning_at es k)
+instruction_of es ss (code.InvokeDynamic k) = on_dynamic (meaning_at es k)
 instruction_of es ss (code.New k) = on_class def.New (meaning_at es k)
 instruction_of es ss (code.NewArray n) = array_of n
 instruction_of es ss (code.NewReferenceArray k) = on_class def.NewReferenceArray (meaning_at es k)
@@ -223,6 +235,19 @@ field_of f = record {
   constant = option_map constant_of f.constant;
 }
 
+abbrev pub bootstrap_of : Bootstrap → def_linked.Bootstrap
+bootstrap_of b = record {
+  desc = b.desc;
+  args = map kind_of b.args;
+  result = option_map kind_of b.result;
+  kind = b.kind;
+  target = method_ref_of b.target;
+  inst_args = map kind_of b.inst_args;
+}
+
+abbrev pub bootstraps_of : List (Option Bootstrap) → List (Option def_linked.Bootstrap)
+bootstraps_of bs = map (option_map bootstrap_of) bs
+
 -- The class as the definitions see it.
 unfoldable pub linked_of : LinkedClass → def_linked.Linked
 linked_of c = record {
@@ -232,6 +257,7 @@ linked_of c = record {
   interfaces = c.interfaces;
   fields = map field_of c.fields;
   methods = map (method_of c.entries) c.methods;
+  bootstraps = bootstraps_of c.bootstraps;
 }
 
 -- The place of the method of a name and a descriptor in the class as the definitions see it.

@@ -5,9 +5,9 @@ ghost use Rattle.std.specs.Prelude.{◌≡◌, ◌++◌, map, IfOk, OnOk};
 ghost use Rattle.std.specs.Option.{option_copied};
 ghost use Rattle.class_link.specs.View.{symbol_of};
 ghost use Rattle.class_link.specs.Symbols.{symbol_in, name_or_empty};
-ghost use Rattle.class_link.specs.Named.{NamesField, NamesMethod};
+ghost use Rattle.class_link.specs.Named.{NamesField, NamesMethod, NamesDynamic};
 
-use crate::linked::{Entry, FieldRef, MethodRef};
+use crate::linked::{DynamicRef, Entry, FieldRef, MethodRef};
 use crate::long_pool::LongPool;
 use crate::shared::Shared;
 use crate::texts::Text;
@@ -77,6 +77,21 @@ fn field_entry(alloc: Global, pool: &LongPool, class: u16, pair: u16) -> Result<
     }))
 }
 
+fn dynamic_entry(alloc: Global, pool: &LongPool, bootstrap: u16, pair: u16) -> Result<Entry, Memory>
+    ensures { IfOk result (NamesDynamic pool.now bootstrap pair) }
+{
+    let (name, desc) = pool.pair(pair);
+    let name = shared_name(alloc, name)?;
+    let text = text_found(alloc, desc)?;
+    let (_, args, result) = text.into_method();
+    Ok(Entry::Dynamic(DynamicRef {
+        bootstrap,
+        name,
+        args,
+        result,
+    }))
+}
+
 fn entry_in(alloc: Global, pool: &LongPool, constant: &Const) -> Result<Entry, Memory>
     ensures { IfOk result (λ e. symbol_of e ≡ symbol_in pool.now constant.now) }
 {
@@ -88,6 +103,7 @@ fn entry_in(alloc: Global, pool: &LongPool, constant: &Const) -> Result<Entry, M
         Const::Field(class, pair) => field_entry(alloc, pool, *class, *pair),
         Const::Method(class, pair) => method_entry(alloc, pool, *class, *pair, false),
         Const::IMethod(class, pair) => method_entry(alloc, pool, *class, *pair, true),
+        Const::Dynamic(bootstrap, pair) => dynamic_entry(alloc, pool, *bootstrap, *pair),
         _ => Ok(Entry::Other),
     }
 }

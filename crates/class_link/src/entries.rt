@@ -1,12 +1,12 @@
 //! The run-time constant pool of a class (JVMS 5.1).
 
 ghost use Rattle.std.specs.Prelude.{◌≡◌, IfOk};
-ghost use Rattle.class_link.specs.Named.{NamesField, NamesMethod};
+ghost use Rattle.class_link.specs.Named.{NamesField, NamesMethod, NamesDynamic};
 ghost use Rattle.class_link.specs.Symbols.{symbol_in};
 ghost use Rattle.class_link.specs.Switches.{AreEntries};
 ghost use Rattle.class_link.specs.View.{symbol_of};
 
-use crate::linked::{Entry, FieldRef, MethodRef};
+use crate::linked::{DynamicRef, Entry, FieldRef, MethodRef};
 use crate::texts::Texts;
 use class_model::{Const, Memory, Seq};
 use std::alloc::Global;
@@ -43,6 +43,20 @@ fn field_entry(texts: &Texts, class: u16, pair: u16) -> Result<Entry, Memory>
     }))
 }
 
+fn dynamic_entry(texts: &Texts, bootstrap: u16, pair: u16) -> Result<Entry, Memory>
+    ensures { IfOk result (NamesDynamic texts.now bootstrap pair) }
+{
+    let (name, desc) = texts.pair(pair);
+    let name = name.name()?;
+    let (_, args, result) = desc.method()?;
+    Ok(Entry::Dynamic(DynamicRef {
+        bootstrap,
+        name,
+        args,
+        result,
+    }))
+}
+
 fn entry_in(texts: &Texts, constant: &Const) -> Result<Entry, Memory>
     ensures { IfOk result (λ e. symbol_of e ≡ symbol_in texts.now constant.now) }
 {
@@ -54,6 +68,7 @@ fn entry_in(texts: &Texts, constant: &Const) -> Result<Entry, Memory>
         Const::Field(class, pair) => field_entry(texts, *class, *pair),
         Const::Method(class, pair) => method_entry(texts, *class, *pair, false),
         Const::IMethod(class, pair) => method_entry(texts, *class, *pair, true),
+        Const::Dynamic(bootstrap, pair) => dynamic_entry(texts, *bootstrap, *pair),
         _ => Ok(Entry::Other),
     }
 }

@@ -5,8 +5,8 @@ use program_rules::{Comparison, Conversion, Element, Operation, ShiftKind};
 /// An instruction, one for each kind of the profile, whichever opcode or `wide` form it was spelled
 /// by (JVMS 6.5).
 ///
-/// A place in the code is an instruction number. What names a text, a class, a field or a method
-/// has the index of the class's constant pool, counted from 1, and a switch has its number among
+/// A place in the code is an instruction number. What names a text, a class, a field, a method or
+/// a call site has the index of the class's constant pool, counted from 1, and a switch has its number among
 /// those of its code: `LinkedClass` and `LinkedCode` say
 /// what is there. Where nothing of the kind that is needed is there, the instruction means nothing,
 /// and no row of the machine applies to it.
@@ -65,6 +65,7 @@ pub enum Instruction {
     InvokeInterface(u32),
     InvokeSpecial(u32),
     InvokeStatic(u32),
+    InvokeDynamic(u32),
     New(u32),
     /// An array of elements of this number: 4 boolean, 5 char, 8 byte, 9 short, 10 int, 11 long
     /// (JVMS 6.5, newarray).

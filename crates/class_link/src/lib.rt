@@ -3,6 +3,7 @@
 #![tactic(auto)]
 
 mod added_entries;
+mod bootstraps;
 mod code_linking;
 mod edited_class;
 mod entries;
@@ -30,8 +31,8 @@ pub use instruction::Instruction;
 pub use laws::{appended_mean_the_same, forms_mean_the_same, linked_have_stated_kinds};
 pub use line_table::LineTable;
 pub use linked::{
-    Entry, FieldConstant, FieldRef, LinkedBody, LinkedClass, LinkedCode, LinkedField, LinkedLine,
-    LinkedMethod, LinkedRow, MethodRef, Switch,
+    Bootstrap, DynamicRef, Entry, FieldConstant, FieldRef, LinkedBody, LinkedClass, LinkedCode,
+    LinkedField, LinkedLine, LinkedMethod, LinkedRow, MethodRef, Switch,
 };
 pub use loaded::{ClassBody, EditedFile, LibBody, LibClass, LibField, LibMethod, Loaded};
 pub use long_pool::at_place;

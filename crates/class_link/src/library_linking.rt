@@ -1,7 +1,7 @@
 //! What a class of the library means once indices of its constant pool are resolved to names, and
 //! its native methods are known by their numbers (this project's own).
 
-ghost use Rattle.std.specs.Prelude.{◌≡◌, List, map, slice_get, IfOk, OnOk};
+ghost use Rattle.std.specs.Prelude.{◌≡◌, List, [], map, slice_get, IfOk, OnOk};
 ghost use Rattle.std.specs.Option.{option_map};
 ghost use Rattle.library_rules.specs.Numbered.{meaning_of, meaning_numbered};
 ghost use Rattle.class_link.specs.Linking as linking;
@@ -171,7 +171,8 @@ fn link_library_into(
     class: &LibClass,
     linked: &mut LinkedClass,
 ) -> Result<(), Memory>
-    requires { AreEntries linked.old.entries class.now.pool }
+    requires entries { AreEntries linked.old.entries class.now.pool }
+    requires bootstraps { linked.old.bootstraps ≡ [] }
     ensures meant { OnOk result (linked_of linked.new ≡ linking.link_library class.now) }
     ensures entries { linked.new.entries ≡ linked.old.entries }
 {
@@ -197,7 +198,9 @@ pub fn link_library(alloc: Global, class: &LibClass) -> Result<LinkedClass, Memo
     ensures meant { IfOk result (λ c. linked_of c ≡ linking.link_library class.now) }
     ensures entries { IfOk result (λ c. AreEntries c.entries class.now.pool) }
 {
-    let mut linked = empty_class(alloc, library_entries(alloc, class.pool.as_slice())?);
+    let entries = library_entries(alloc, class.pool.as_slice())?;
+    let none = Shared::new(alloc, Seq::new(alloc))?;
+    let mut linked = empty_class(alloc, entries, none);
     link_library_into(alloc, class, &mut linked)?;
     Ok(linked)
 }

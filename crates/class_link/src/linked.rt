@@ -34,6 +34,16 @@ pub struct FieldRef {
     pub kind: Shared<Kind>,
 }
 
+/// A call site that is named (JVMS 4.4.10): its bootstrap method by its place among those of the
+/// class, its name, and what its descriptor states of what is captured and of what is given.
+#[derive(Drop)]
+pub struct DynamicRef {
+    pub bootstrap: u16,
+    pub name: Shared<Name>,
+    pub args: Shared<Seq<Kind>>,
+    pub result: Shared<Option<Kind>>,
+}
+
 /// An entry of the run-time constant pool (JVMS 5.1): what an index means to an instruction.
 #[derive(Drop)]
 pub enum Entry {
@@ -45,6 +55,7 @@ pub enum Entry {
     Class(Shared<Name>),
     Field(FieldRef),
     Method(MethodRef),
+    Dynamic(DynamicRef),
 }
 
 /// A `tableswitch` or a `lookupswitch` (JVMS 6.5).
@@ -123,8 +134,22 @@ pub struct LinkedField {
     pub constant: Option<FieldConstant>,
 }
 
+/// An entry of the BootstrapMethods attribute (JVMS 4.7.23) of the one form that is run: what the
+/// type of the interface's method states, what is called by its kind of handle (4.4.8), and the
+/// arguments of the type that is instantiated.
+#[derive(Drop)]
+pub struct Bootstrap {
+    pub desc: Shared<Name>,
+    pub args: Shared<Seq<Kind>>,
+    pub result: Shared<Option<Kind>>,
+    pub kind: u8,
+    pub target: MethodRef,
+    pub inst_args: Shared<Seq<Kind>>,
+}
+
 /// A class with names in place of pool indices. `library` is set for the classes that come with the
-/// machine and not from a class file. The class of an edit shares codes and entries with it.
+/// machine and not from a class file. The class of an edit shares codes, entries and
+/// bootstrap methods with it.
 #[derive(Drop)]
 pub struct LinkedClass {
     pub library: bool,
@@ -133,6 +158,8 @@ pub struct LinkedClass {
     pub interfaces: Seq<Shared<Name>>,
     pub fields: Seq<LinkedField>,
     pub methods: Seq<LinkedMethod>,
+    /// The bootstrap methods in order, none for one of another form.
+    pub bootstraps: Shared<Seq<Option<Bootstrap>>>,
     /// The run-time constant pool by the indices of the class file. At place 0, which is no index,
     /// stands `Other`.
     pub entries: Shared<Seq<Entry>>,

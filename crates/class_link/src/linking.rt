@@ -9,11 +9,15 @@ ghost use Rattle.class_link.specs.Linking as linking;
 ghost use Rattle.class_link.specs.Named.{IsConstantIn, IsConstantBy, IsCodeBody, IsBodyBy, IsMethodIn, AreMethodsIn};
 ghost use Rattle.class_link.specs.Switches.{AreEntries};
 ghost use Rattle.class_link.specs.Bare.{bare_field, method_with};
-ghost use Rattle.class_link.specs.View.{field_of, linked_of};
+ghost use Rattle.class_link.specs.Bootstraps.{bootstraps_in};
+ghost use Rattle.class_link.specs.View.{field_of, bootstraps_of, linked_of};
 
+use crate::bootstraps::bootstraps;
 use crate::code_linking::link_code;
 use crate::entries::entries;
-use crate::linked::{Entry, FieldConstant, LinkedBody, LinkedClass, LinkedField, LinkedMethod};
+use crate::linked::{
+    Bootstrap, Entry, FieldConstant, LinkedBody, LinkedClass, LinkedField, LinkedMethod,
+};
 use crate::named_classes::NamedClasses;
 use crate::shared::Shared;
 use crate::texts::{Text, Texts};
@@ -211,9 +215,14 @@ fn class_names(alloc: Global, texts: &Texts, indices: &[u16]) -> Result<Seq<Shar
     Ok(Seq::from_vec(names))
 }
 
-/// A class in which nothing stands yet but these entries.
-pub fn empty_class(alloc: Global, entries: Shared<Seq<Entry>>) -> LinkedClass
-    ensures { result.entries ≡ entries }
+/// A class in which nothing stands yet but these entries and bootstrap methods.
+pub fn empty_class(
+    alloc: Global,
+    entries: Shared<Seq<Entry>>,
+    bootstraps: Shared<Seq<Option<Bootstrap>>>,
+) -> LinkedClass
+    ensures entries { result.entries ≡ entries }
+    ensures bootstraps { result.bootstraps ≡ bootstraps }
 {
     LinkedClass {
         library: false,
@@ -222,6 +231,7 @@ pub fn empty_class(alloc: Global, entries: Shared<Seq<Entry>>) -> LinkedClass
         interfaces: Seq::new(alloc),
         fields: Seq::new(alloc),
         methods: Seq::new(alloc),
+        bootstraps,
         entries,
     }
 }
@@ -236,6 +246,7 @@ fn link_into(
 ) -> Result<(), Memory>
     requires pool { texts.now ≡ class.now.pool }
     requires entries { AreEntries linked.old.entries class.now.pool }
+    requires bootstraps { bootstraps_of linked.old.bootstraps ≡ bootstraps_in class.now }
     ensures meant { OnOk result (linked_of linked.new ≡ linking.link class.now) }
     ensures entries { linked.new.entries ≡ linked.old.entries }
 {
@@ -255,7 +266,9 @@ pub fn link(alloc: Global, class: &Class) -> Result<LinkedClass, Memory>
 {
     let texts = Texts::new(alloc, class.pool.as_slice())?;
     let entries = entries(alloc, &texts, class.pool.as_slice())?;
-    let mut linked = empty_class(alloc, Shared::new(alloc, entries)?);
+    let bootstraps = bootstraps(alloc, entries.as_slice(), &texts, class)?;
+    let entries = Shared::new(alloc, entries)?;
+    let mut linked = empty_class(alloc, entries, Shared::new(alloc, bootstraps)?);
     link_into(alloc, &texts, class, &mut linked)?;
     Ok(linked)
 }

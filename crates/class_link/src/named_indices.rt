@@ -22,6 +22,7 @@ fn index_named(instruction: &Instruction) -> Option<u32>
         Instruction::InvokeInterface(index) => Some(*index),
         Instruction::InvokeSpecial(index) => Some(*index),
         Instruction::InvokeStatic(index) => Some(*index),
+        Instruction::InvokeDynamic(index) => Some(*index),
         Instruction::New(index) => Some(*index),
         Instruction::NewReferenceArray(index) => Some(*index),
         Instruction::NewMultiArray(index, _) => Some(*index),

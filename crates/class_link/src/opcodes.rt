@@ -246,6 +246,7 @@ pub fn with_index(entries: &[Entry], op: u8, index: u16) -> Instruction
         0xb6 => Instruction::InvokeVirtual(at),
         0xb7 => Instruction::InvokeSpecial(at),
         0xb8 => Instruction::InvokeStatic(at),
+        0xba => Instruction::InvokeDynamic(at),
         0xbb => Instruction::New(at),
         0xbd => Instruction::NewReferenceArray(at),
         0xc0 => Instruction::CheckCast(at),

@@ -7,7 +7,8 @@ ghost use Rattle.class_link.specs.Switches.{AreEntries};
 
 use crate::added_entries::{added_entries, with_more};
 use crate::linked::{
-    Entry, FieldConstant, FieldRef, LinkedBody, LinkedClass, LinkedField, LinkedMethod, MethodRef,
+    DynamicRef, Entry, FieldConstant, FieldRef, LinkedBody, LinkedClass, LinkedField, LinkedMethod,
+    MethodRef,
 };
 use crate::linking::{empty_class, link_body};
 use crate::loaded::EditedFile;
@@ -118,6 +119,19 @@ impl Copied for MethodRef {
     }
 }
 
+impl Copied for DynamicRef {
+    fn copied(&self) -> Result<DynamicRef, Memory> {
+        let name = self.name.share()?;
+        let args = self.args.share()?;
+        Ok(DynamicRef {
+            bootstrap: self.bootstrap,
+            name,
+            args,
+            result: self.result.share()?,
+        })
+    }
+}
+
 impl Copied for Entry {
     fn copied(&self) -> Result<Entry, Memory> {
         match self {
@@ -128,6 +142,7 @@ impl Copied for Entry {
             Entry::Class(name) => Ok(Entry::Class(name.share()?)),
             Entry::Field(field) => Ok(Entry::Field(field.copied()?)),
             Entry::Method(method) => Ok(Entry::Method(method.copied()?)),
+            Entry::Dynamic(site) => Ok(Entry::Dynamic(site.copied()?)),
         }
     }
 }
@@ -193,6 +208,7 @@ fn relinked_methods(
 
 // Puts what isn't edited into a class.
 fn share_into(class: &LinkedClass, linked: &mut LinkedClass) -> Result<(), Memory>
+    requires { linked.old.bootstraps ≡ class.now.bootstraps }
     ensures { OnOk result (SharesRest class.now linked.old linked.new) }
 {
     linked.library = class.library;
@@ -225,7 +241,7 @@ fn relink(
         at,
         attrs,
     )?;
-    let mut linked = empty_class(alloc, entries.share()?);
+    let mut linked = empty_class(alloc, entries.share()?, class.bootstraps.share()?);
     linked.methods = methods;
     share_into(class, &mut linked)?;
     Ok(linked)

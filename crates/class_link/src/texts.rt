@@ -1,7 +1,8 @@
 //! The texts of a constant pool, each kept once, with what it states as a descriptor (JVMS 4.3,
 //! 4.4.7).
 
-ghost use Rattle.std.specs.Prelude.{◌≡◌, [], map, IfOk};
+ghost use Rattle.std.specs.Prelude.{◌≡◌, nat_eq, [], map, IfOk};
+ghost use Rattle.std.specs.Cmp.Lexicographic.{pointwise};
 ghost use Rattle.std.specs.Option.{option_copied};
 ghost use Rattle.class_model.specs.Pool.{entry_of, text_in, pair_name_of, pair_desc_of};
 ghost use Rattle.class_link.specs.Linking.{class_or_none};
@@ -9,6 +10,7 @@ ghost use Rattle.class_link.specs.Symbols.{name_or_empty, class_named, text_name
 ghost use Rattle.class_link.specs.Texts.{AreTexts};
 
 use crate::shared::Shared;
+use class_model::names::is_text;
 use class_model::{
     Const, DescFault, Kind, Memory, MethodType, Name, Seq, parse_field, parse_method,
 };
@@ -126,6 +128,13 @@ impl Text {
         ensures { IfOk result (λ n. n ≡ self.now) }
     {
         self.name.share()
+    }
+
+    /// Whether it is a text of ASCII characters.
+    pub fn is(&self, text: &[u8]) -> bool
+        ensures { result ≡ pointwise nat_eq self.now text.now }
+    {
+        is_text(self.name.as_slice(), text)
     }
 
     /// The text with what it states as the descriptor of a field.

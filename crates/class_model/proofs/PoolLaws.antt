@@ -1,7 +1,11 @@
 -- A text has a kind, or a method's type, exactly where reading it gives one. For the crates that
 -- read pools.
-use Rattle.std.proofs.Common.{◌≡◌, ℕ, List, Option, Some, None, Ok, IsSome, refl, sym, ap, subst, ◌∙◌}
+use Rattle.std.proofs.Common.{◌≡◌, ℕ, List, [], ◌∷◌, Bool, true, false, Option, Some, None, Ok, IsSome, refl, sym, ap, subst, ◌∙◌}
+use Rattle.std.specs.Prelude.{◌&&◌, nat_eq, codes}
+use Rattle.std.specs.List.{starts_with}
+use Rattle.std.proofs.lemmas.Bool.{eqb-true}
 use Rattle.std.specs.Option.{ok_or}
+use Rattle.class_model.specs.DeclaredName.{is_site_name}
 use Rattle.class_model.specs.Descriptor.{kind_of, method_type}
 use Rattle.class_model.specs.DescriptorReading.{meaning_or_fault, field_type_of, method_descriptor_of, field_kind, method_kinds}
 use Rattle.class_model.specs.Pool.{HasKind, HasMethodType}
@@ -42,3 +46,12 @@ pub read_from_HasMethodType : (desc : List ℕ) → HasMethodType desc → (type
 read_from_HasMethodType desc h =
     let k = gives (method_type h.tree) h.floatless in
     (k.value, meaning_ok method_type (method_descriptor_of desc) h.tree k.value (method_again desc h.tree h.spelled) k.is)
+
+-- A name that begins with a bracket is none of a call site's class.
+left : (a b : Bool) → a && b ≡ true → a ≡ true
+left true b e = refl
+left false b e = absurd cc
+
+pub bracket_plain : (name : List ℕ) → starts_with nat_eq name (codes "[") ≡ true → is_site_name name ≡ false
+bracket_plain [] e = refl
+bracket_plain (first ∷ units) e = subst (λ n. is_site_name (n ∷ units) ≡ false) (eqb-true 91 first (left (nat_eq 91 first) true e)) refl

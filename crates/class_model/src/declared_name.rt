@@ -5,13 +5,15 @@ ghost use Rattle.std.specs.Char.Utf16.{is_high_surrogate, is_low_surrogate, has_
 ghost use Rattle.std.specs.List.{list_all};
 ghost use Rattle.class_model.specs.Steps.{behind_char};
 ghost use Rattle.class_model.specs.Parting.{parted_at};
-ghost use Rattle.class_model.specs.DeclaredName.{is_reserved, is_special, is_field_name, is_method_name, is_class_name};
+ghost use Rattle.class_model.specs.DeclaredName.{is_reserved, is_special, is_field_name, is_method_name, is_site_name, is_class_name};
 
 const SLASH: u16 = b'/' as u16;
 
 const INIT: [u16; 6] = [60, 105, 110, 105, 116, 62];
 
 const CLASS_INIT: [u16; 8] = [60, 99, 108, 105, 110, 105, 116, 62];
+
+const SITE: [u16; 8] = [109, 116, 47, 83, 105, 116, 101, 59];
 
 fn is_high_surrogate(unit: u16) -> bool
     ensures { result ≡ is_high_surrogate unit }
@@ -110,6 +112,13 @@ pub fn is_method_name(name: &[u16]) -> bool
     ensures { result ≡ is_method_name name.now }
 {
     is_field_name(name) && (is_special(name) || has_no_angle(name))
+}
+
+/// Whether it begins as the names of the classes that are made for call sites.
+pub fn is_site_name(name: &[u16]) -> bool
+    ensures { result ≡ is_site_name name.now }
+{
+    name.starts_with(&SITE)
 }
 
 /// Whether a class may have this name: parts that `/` parts.

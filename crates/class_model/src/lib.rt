@@ -33,7 +33,7 @@ pub use checked_pool::{CheckedPool, Verdict};
 pub use class::{Class, ClassId, Member};
 pub use constant::{Const, push_entries};
 pub use copies::Copied;
-pub use declared_name::{is_class_name, is_field_name, is_method_name, parted_at};
+pub use declared_name::{is_class_name, is_field_name, is_method_name, is_site_name, parted_at};
 pub use descriptor::{parse_field, parse_method};
 pub use edit::{Edit, NewInsn};
 pub use fault::{Bound, ClassFault, DescFault, LayoutFault, TextFault};

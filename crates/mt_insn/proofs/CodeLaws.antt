@@ -55,7 +55,6 @@ formed_plain pool (Some f) true o q = absurd q
 formed_plain pool (Some form.Plain) false o q = plain_along o _ q tt
 formed_plain pool (Some form.Float) false o q = absurd q
 formed_plain pool (Some form.FloatLocal) false o q = absurd q
-formed_plain pool (Some form.Dynamic) false o q = absurd q
 formed_plain pool (Some f) false o q = plain_along o _ q.0 tt
 
 raw_plain : (pool : List Const) (r : RawInsn) → IsRaw pool r → IsPlain r.operand

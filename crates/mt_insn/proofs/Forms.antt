@@ -20,7 +20,6 @@ few_by (Some form) true place a q small = absurd q
 few_by (Some form.Plain) false place a q small = no_keys a _ q refl
 few_by (Some form.Float) false place a q small = absurd q
 few_by (Some form.FloatLocal) false place a q small = absurd q
-few_by (Some form.Dynamic) false place a q small = absurd q
 few_by (Some form.Jump) false place a q small = no_keys a _ q refl
 few_by (Some form.FarJump) false place a q small = no_keys a _ q refl
 few_by (Some form.Lookup) false place a q small = omega (arith, small)

@@ -20,7 +20,7 @@ use Rattle.mt_insn.specs.declared.raw.Operand.{Operand}
 use Rattle.mt_insn.specs.declared.raw.Operand.TheVariants as operand
 use Rattle.mt_insn.specs.declared.raw.RawInsn.{RawInsn}
 use Rattle.mt_insn.proofs.Items.{u1_codec}
-use Rattle.mt_insn.proofs.Operands.{small_number_codec, wide_number_codec, small_constant_codec, constant_codec, long_constant_codec, named_codec, local_codec, wide_local_codec, increment_codec, wide_increment_codec, jump_codec, far_jump_codec, array_codec, dimensions_codec, interface_codec}
+use Rattle.mt_insn.proofs.Operands.{small_number_codec, wide_number_codec, small_constant_codec, constant_codec, long_constant_codec, named_codec, local_codec, wide_local_codec, increment_codec, wide_increment_codec, jump_codec, far_jump_codec, array_codec, dimensions_codec, interface_codec, dynamic_codec}
 use Rattle.mt_insn.proofs.Switches.{table_codec, lookup_codec}
 
 -- an opcode that is refused is none of the spelled ones
@@ -54,7 +54,7 @@ operand_codec base pool at form.Field = named_codec is_field pool at
 operand_codec base pool at form.Method = named_codec is_method pool at
 operand_codec base pool at form.AnyMethod = named_codec is_any_method pool at
 operand_codec base pool at form.Interface = interface_codec pool at
-operand_codec base pool at form.Dynamic = refused_codec (fault.DynamicUsed at) 4 at (λ place o. [])
+operand_codec base pool at form.Dynamic = dynamic_codec pool at
 operand_codec base pool at form.Class = named_codec is_class pool at
 operand_codec base pool at form.Array = array_codec pool at
 operand_codec base pool at form.Dimensions = dimensions_codec pool at

@@ -97,7 +97,6 @@ unfolding To Table Lookup
 arg_formed pool form.Plain starts place a q = done_is starts place a arg.None q
 arg_formed pool form.Float starts place a q = absurd q
 arg_formed pool form.FloatLocal starts place a q = absurd q
-arg_formed pool form.Dynamic starts place a q = absurd q
 arg_formed pool form.SmallNumber starts place a q = let r = kept (IsOperand pool form.SmallNumber) starts place a _ q.0 q in (done_inj a _ r.0, r.1)
 arg_formed pool form.Number starts place a q = let r = kept (IsOperand pool form.Number) starts place a _ q.0 q in (done_inj a _ r.0, r.1)
 arg_formed pool form.SmallConstant starts place a q = let r = kept (IsOperand pool form.SmallConstant) starts place a _ q.0 q in (done_inj a _ r.0, r.1)
@@ -219,7 +218,6 @@ arg_again : (pool : List Const) (f : Form) (starts : List ℕ) (place : ℕ) (a 
 arg_again pool form.Plain starts place a near here few q n short = kept_again (IsOperand pool form.Plain) starts place a _ q refl (ap operand.Done q)
 arg_again pool form.Float starts place a near here few q n short = absurd q
 arg_again pool form.FloatLocal starts place a near here few q n short = absurd q
-arg_again pool form.Dynamic starts place a near here few q n short = absurd q
 arg_again pool form.SmallNumber starts place a near here few q n short = kept_again (IsOperand pool form.SmallNumber) starts place a _ q.0 refl (ap operand.Done q.0, q.1)
 arg_again pool form.Number starts place a near here few q n short = kept_again (IsOperand pool form.Number) starts place a _ q.0 refl (ap operand.Done q.0, q.1)
 arg_again pool form.SmallConstant starts place a near here few q n short = kept_again (IsOperand pool form.SmallConstant) starts place a _ q.0 refl (ap operand.Done q.0, q.1, n)

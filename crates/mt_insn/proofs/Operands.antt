@@ -12,8 +12,8 @@ use Rattle.codec_rules.specs.Sequence.{◌>>=◌}
 use Rattle.codec_rules.specs.Spelling.{IsCodecAt}
 use Rattle.codec_rules.proofs.Codec.{chain, made, made_tested, reread}
 use Rattle.mt_insn.specs.Item.{u1_in, u2_in, s1_in, s2_in, s4_in}
-use Rattle.mt_insn.specs.Named.{names, is_loaded, is_long, is_interface_method, is_class, is_counted, is_array_kind, loaded_refusal, long_refusal, array_refusal}
-use Rattle.mt_insn.specs.Operands.{small_number_at, wide_number_at, small_constant_at, constant_at, long_constant_at, local_at, increment_at, wide_local_at, wide_increment_at, jump_at, far_jump_at, named_at, interface_at, array_at, dimensions_at}
+use Rattle.mt_insn.specs.Named.{names, is_loaded, is_long, is_interface_method, is_dynamic, is_class, is_counted, is_array_kind, loaded_refusal, long_refusal, array_refusal}
+use Rattle.mt_insn.specs.Operands.{small_number_at, wide_number_at, small_constant_at, constant_at, long_constant_at, local_at, increment_at, wide_local_at, wide_increment_at, jump_at, far_jump_at, named_at, interface_at, dynamic_at, array_at, dimensions_at}
 use Rattle.mt_insn.specs.Spelling.{number_in, index_in, count_in, kind_in, local_in, offset_in, u1, u2, s1, s2, s4, IsOperand, IsWideOperand, IsNamed}
 use Rattle.mt_insn.specs.declared.opcode.Form.TheVariants as form
 use Rattle.mt_insn.specs.declared.raw.Operand.{Operand}
@@ -149,4 +149,34 @@ interface_codec pool at =
     (λ n low good. let g = both_true named _ good in let h = both_true (is_counted pool index count) _ g.1 in ((((refl, lt, small, g.0, h.0), refl), refl), sym (eqb-true n 0 h.1)))
     (λ o q. (omega arith, subst (λ (k : ℕ). names is_interface_method pool k && (is_counted pool k count && eqb 0 0) ≡ true) q.0.1 (subst (λ (k : ℕ). names is_interface_method pool (index_in o) && (is_counted pool (index_in o) k && eqb 0 0) ≡ true) q.1 (all_true _ _ q.0.0.3 q.0.0.4)), ap (λ (l : ℕ). operand.Done (arg.Multi l count)) (sym q.0.1) ∙ ap (λ (c : ℕ). operand.Done (arg.Multi (index_in o) c)) (sym q.1) ∙ sym q.0.0.0))))
     (λ o q. q.0.2))
+    (λ o q. q.1)
+
+-- three tests, one after the other, are one
+three_tests : {A : Type 0} (a b c : Bool) (x : A) (e f g : ClassFault) → cond a (cond b (cond c (Ok x) (Err e)) (Err f)) (Err g) ≡ cond (a && (b && c)) (Ok x) (Err (cond a (cond b e f) g))
+three_tests true true c x e f g = refl
+three_tests true false c x e f g = refl
+three_tests false b c x e f g = refl
+
+pub dynamic_codec : (pool : List Const) (at : ℕ) → IsCodecAt (dynamic_at pool at) (λ place o. u2 (index_in o) ++ (u1 0 ++ u1 0)) (IsNamed is_dynamic pool)
+unfolding dynamic_at
+dynamic_codec pool at =
+    let Q : Operand → Type 0 = IsNamed is_dynamic pool in
+    let e = fault.Padding (at + 4) in
+    let f = fault.Padding (at + 3) in
+    let g = fault.BadIndex (at + 1) in
+    chain (u2_in at) (λ place. u2) (λ n. n < 2 ^ 16) (λ i index j. u1_in at j >>= λ first. u1_in at first.1 >>= λ second. cond (names is_dynamic pool index) (cond (eqb first.0 0) (cond (eqb second.0 0) (Ok (pool_of index, second.1)) (Err e)) (Err f)) (Err g)) index_in (λ place o. u1 0 ++ u1 0) Q (u2_codec at)
+    (λ i index lt.
+    chain (u1_in at) (λ place. u1) (λ n. n < 2 ^ 8) (λ i first j. u1_in at j >>= λ second. cond (names is_dynamic pool index) (cond (eqb first 0) (cond (eqb second.0 0) (Ok (pool_of index, second.1)) (Err e)) (Err f)) (Err g)) (λ o. 0) (λ place o. u1 0) (λ o. Q o × (index_in o ≡ index)) (u1_codec at)
+    (λ i first small.
+    let named = names is_dynamic pool index in
+    let test : ℕ → Bool = λ second. named && (eqb first 0 && eqb second 0) in
+    let refusal = cond named (cond (eqb first 0) e f) g in
+    reread (λ j. u1_in at j >>= λ second. cond (test second.0) (Ok (pool_of index, second.1)) (Err refusal)) _ (λ place o. u1 0) (λ o. (Q o × (index_in o ≡ index)) × (0 ≡ first))
+    (λ j. bind_same (u1_in at j) _ _ (λ second. three_tests named (eqb first 0) (eqb second.0 0) (pool_of index, second.1) e f g))
+    (made_tested (u1_in at) (λ place. u1) (λ n. n < 2 ^ 8) test (λ second. refusal) (λ second. pool_of index) (λ o. 0) (λ o. (Q o × (index_in o ≡ index)) × (0 ≡ first)) (u1_codec at)
+    (λ n low good. let p = both_true named _ good in let h = both_true (eqb first 0) _ p.1 in ((((refl, lt, p.0), refl), sym (eqb-true first 0 h.0)), sym (eqb-true n 0 h.1)))
+    (λ o q.
+    let there : names is_dynamic pool (index_in o) && (eqb 0 0 && eqb 0 0) ≡ true = rw q.0.0.2 refl in
+    (omega arith, subst (λ (k : ℕ). names is_dynamic pool k && (eqb first 0 && eqb 0 0) ≡ true) q.0.1 (subst (λ (k : ℕ). names is_dynamic pool (index_in o) && (eqb k 0 && eqb 0 0) ≡ true) q.1 there), ap pool_of (sym q.0.1) ∙ sym q.0.0.0))))
+    (λ o q. omega arith))
     (λ o q. q.1)

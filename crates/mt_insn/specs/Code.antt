@@ -13,7 +13,7 @@ use Rattle.class_model.specs.declared.fault.LayoutFault.TheVariants as layout_fa
 use Rattle.class_model.specs.declared.fault.Bound.TheVariants as bound
 use Rattle.codec_rules.specs.Spelling.{spelled_from}
 use Rattle.mt_insn.specs.Opcode.{form_of}
-use Rattle.mt_insn.specs.Named.{names, is_loaded, is_long, is_field, is_method, is_any_method, is_interface_method, is_class, is_counted, is_array_kind}
+use Rattle.mt_insn.specs.Named.{names, is_loaded, is_long, is_field, is_method, is_any_method, is_interface_method, is_dynamic, is_class, is_counted, is_array_kind}
 use Rattle.mt_insn.specs.Operands.{padding}
 use Rattle.mt_insn.specs.Spelling.{number_in, index_in, count_in, kind_in, local_in, highest, raw_bytes, IsRaw}
 use Rattle.mt_insn.specs.declared.opcode.Form.{Form}
@@ -54,7 +54,7 @@ operand_size form.Field place a = 2
 operand_size form.Method place a = 2
 operand_size form.AnyMethod place a = 2
 operand_size form.Interface place a = 4
-operand_size form.Dynamic place a = 0
+operand_size form.Dynamic place a = 4
 operand_size form.Class place a = 2
 operand_size form.Array place a = 1
 operand_size form.Dimensions place a = 3
@@ -201,7 +201,8 @@ IsArg form.Lookup a =
 IsArg form.Interface a =
     (a ≡ arg.Multi (index_in (operand.Done a)) (count_in (operand.Done a)))
     × (index_in (operand.Done a) < 2 ^ 16) × (count_in (operand.Done a) < 2 ^ 8)
-IsArg form.Dynamic a = ⊥
+IsArg form.Dynamic a =
+    (a ≡ arg.Pool (index_in (operand.Done a))) × (index_in (operand.Done a) < 2 ^ 16)
 IsArg form.Array a =
     (a ≡ arg.Kind (kind_in (operand.Done a))) × (kind_in (operand.Done a) < 2 ^ 8)
     × (is_array_kind (kind_in (operand.Done a)) ≡ true)
@@ -285,6 +286,7 @@ HasNames pool form.AnyMethod a = names is_any_method pool (index_in (operand.Don
 HasNames pool form.Interface a =
     (names is_interface_method pool (index_in (operand.Done a)) ≡ true)
     × (is_counted pool (index_in (operand.Done a)) (count_in (operand.Done a)) ≡ true)
+HasNames pool form.Dynamic a = names is_dynamic pool (index_in (operand.Done a)) ≡ true
 HasNames pool form.Class a = names is_class pool (index_in (operand.Done a)) ≡ true
 HasNames pool form.Dimensions a = names is_class pool (index_in (operand.Done a)) ≡ true
 HasNames pool other a = Unit {0}

@@ -46,6 +46,11 @@ abbrev pub is_interface_method : Const → Bool
 is_interface_method (const.IMethod class pair) = true
 is_interface_method other = false
 
+-- What invokedynamic calls.
+abbrev pub is_dynamic : Const → Bool
+is_dynamic (const.Dynamic bootstrap pair) = true
+is_dynamic other = false
+
 abbrev pub is_class : Const → Bool
 is_class (const.Class name) = true
 is_class other = false

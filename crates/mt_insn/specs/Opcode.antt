@@ -1,5 +1,5 @@
 -- What stands behind each opcode (JVMS 6.5), in this profile: without jsr, ret and jsr_w. Opcodes
--- of floats and of dynamic calls have a form, since they have a length, and are refused by name.
+-- of floats have a form, since they have a length, and are refused by name.
 use Rattle.std.specs.Prelude.{ℕ, Bool, ◌&&◌, ◌==◌, nat_le, nat_lt, Option, Some, None, if◌then◌else◌, List, [], ◌∷◌}
 use Rattle.std.specs.List.{list_any}
 use Rattle.mt_insn.specs.declared.opcode.Form.{Form}

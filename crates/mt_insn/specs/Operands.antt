@@ -12,7 +12,7 @@ use Rattle.class_model.specs.declared.fault.ClassFault.TheVariants as fault
 use Rattle.codec_rules.specs.Reading.{many_at}
 use Rattle.codec_rules.specs.Sequence.{◌>>=◌, unless}
 use Rattle.mt_insn.specs.Item.{CodeReader, bytes_in, u1_in, u2_in, u4_in, s1_in, s2_in, s4_in}
-use Rattle.mt_insn.specs.Named.{names, is_loaded, is_long, is_interface_method, is_class, is_counted, is_array_kind, loaded_refusal, long_refusal, array_refusal}
+use Rattle.mt_insn.specs.Named.{names, is_loaded, is_long, is_interface_method, is_dynamic, is_class, is_counted, is_array_kind, loaded_refusal, long_refusal, array_refusal}
 use Rattle.mt_insn.specs.declared.raw.TableItems.{TableItems}
 use Rattle.mt_insn.specs.declared.raw.Operand.{Operand}
 use Rattle.mt_insn.specs.declared.raw.Operand.TheVariants as operand
@@ -99,6 +99,19 @@ interface_at pool at input = do
       then (if is_counted pool index.0 count.0 && last.0 == 0
       then Ok (operand.Done (arg.Multi index.0 count.0), last.1)
       else Err (fault.BadLength at))
+      else Err (fault.BadIndex (at + 1))
+
+-- invokedynamic: the index, and two bytes 0
+unfoldable pub dynamic_at : List Const → ℕ → CodeReader Operand
+dynamic_at pool at input = do
+  index ← u2_in at input
+  first ← u1_in at index.1
+  second ← u1_in at first.1
+  if names is_dynamic pool index.0
+      then (if first.0 == 0
+      then (if second.0 == 0 then Ok (operand.Done (arg.Pool index.0), second.1)
+      else Err (fault.Padding (at + 4)))
+      else Err (fault.Padding (at + 3)))
       else Err (fault.BadIndex (at + 1))
 
 -- newarray

@@ -8,7 +8,7 @@ use Rattle.codec_rules.specs.Sequence.{◌>>=◌}
 use Rattle.mt_insn.specs.Item.{CodeReader, u1_in}
 use Rattle.mt_insn.specs.Named.{is_field, is_method, is_any_method, is_class}
 use Rattle.mt_insn.specs.Opcode.{form_of}
-use Rattle.mt_insn.specs.Operands.{small_number_at, wide_number_at, small_constant_at, constant_at, long_constant_at, local_at, increment_at, wide_local_at, wide_increment_at, jump_at, far_jump_at, named_at, interface_at, array_at, dimensions_at, refused_at, table_at, lookup_at}
+use Rattle.mt_insn.specs.Operands.{small_number_at, wide_number_at, small_constant_at, constant_at, long_constant_at, local_at, increment_at, wide_local_at, wide_increment_at, jump_at, far_jump_at, named_at, interface_at, dynamic_at, array_at, dimensions_at, refused_at, table_at, lookup_at}
 use Rattle.mt_insn.specs.declared.opcode.Form.{Form}
 use Rattle.mt_insn.specs.declared.opcode.Form.TheVariants as form
 use Rattle.mt_insn.specs.declared.raw.Operand.{Operand}
@@ -35,7 +35,7 @@ operand_at base pool at form.Field input = named_at is_field pool at input
 operand_at base pool at form.Method input = named_at is_method pool at input
 operand_at base pool at form.AnyMethod input = named_at is_any_method pool at input
 operand_at base pool at form.Interface input = interface_at pool at input
-operand_at base pool at form.Dynamic input = refused_at (fault.DynamicUsed at) 4 at input
+operand_at base pool at form.Dynamic input = dynamic_at pool at input
 operand_at base pool at form.Class input = named_at is_class pool at input
 operand_at base pool at form.Array input = array_at at input
 operand_at base pool at form.Dimensions input = dimensions_at pool at input

@@ -5,7 +5,7 @@ use Rattle.std.specs.Int.{w8, w16, w32, to_be_bytes, cast_unsigned}
 use Rattle.std.specs.List.{flat_map, AllByRecursion}
 use Rattle.class_model.specs.declared.constant.Const.{Const}
 use Rattle.class_model.specs.declared.instruction.Arg.TheVariants as arg
-use Rattle.mt_insn.specs.Named.{names, is_loaded, is_long, is_field, is_method, is_any_method, is_interface_method, is_class, is_counted, is_array_kind}
+use Rattle.mt_insn.specs.Named.{names, is_loaded, is_long, is_field, is_method, is_any_method, is_interface_method, is_dynamic, is_class, is_counted, is_array_kind}
 use Rattle.mt_insn.specs.Opcode.{form_of}
 use Rattle.mt_insn.specs.Operands.{padding, ascend}
 use Rattle.mt_insn.specs.declared.opcode.Form.{Form}
@@ -119,13 +119,13 @@ fixed_bytes form.Field o = u2 (index_in o)
 fixed_bytes form.Method o = u2 (index_in o)
 fixed_bytes form.AnyMethod o = u2 (index_in o)
 fixed_bytes form.Interface o = u2 (index_in o) ++ (u1 (count_in o) ++ u1 0)
+fixed_bytes form.Dynamic o = u2 (index_in o) ++ (u1 0 ++ u1 0)
 fixed_bytes form.Class o = u2 (index_in o)
 fixed_bytes form.Array o = u1 (kind_in o)
 fixed_bytes form.Dimensions o = u2 (index_in o) ++ u1 (count_in o)
 fixed_bytes form.Plain o = []
 fixed_bytes form.Float o = []
 fixed_bytes form.FloatLocal o = []
-fixed_bytes form.Dynamic o = []
 fixed_bytes form.Jump o = []
 fixed_bytes form.FarJump o = []
 fixed_bytes form.Table o = []
@@ -202,7 +202,7 @@ IsOperand pool form.Interface o =
     (o ≡ operand.Done (arg.Multi (index_in o) (count_in o))) × (index_in o < 2 ^ 16)
     × (count_in o < 2 ^ 8) × (names is_interface_method pool (index_in o) ≡ true)
     × (is_counted pool (index_in o) (count_in o) ≡ true)
-IsOperand pool form.Dynamic o = ⊥
+IsOperand pool form.Dynamic o = IsNamed is_dynamic pool o
 IsOperand pool form.Class o = IsNamed is_class pool o
 IsOperand pool form.Array o =
     (o ≡ operand.Done (arg.Kind (kind_in o))) × (kind_in o < 2 ^ 8)

@@ -2,7 +2,7 @@
 
 ghost use Rattle.std.specs.Prelude.{◌≡◌};
 ghost use Rattle.class_model.specs.Pool.{entry_of};
-ghost use Rattle.mt_insn.specs.Named.{names, is_loaded, is_long, is_field, is_method, is_any_method, is_interface_method, is_class, loaded_refusal, long_refusal, is_array_kind, array_refusal};
+ghost use Rattle.mt_insn.specs.Named.{names, is_loaded, is_long, is_field, is_method, is_any_method, is_interface_method, is_dynamic, is_class, loaded_refusal, long_refusal, is_array_kind, array_refusal};
 
 use class_model::{CheckedPool, ClassFault, Const};
 
@@ -51,6 +51,13 @@ pub fn names_interface_method(pool: &CheckedPool, index: u16) -> bool
     ensures { result ≡ names is_interface_method pool.now index }
 {
     matches!(pool.entry(index), Some(Const::IMethod(_, _)))
+}
+
+/// The index names what `invokedynamic` calls.
+pub fn names_dynamic(pool: &CheckedPool, index: u16) -> bool
+    ensures { result ≡ names is_dynamic pool.now index }
+{
+    matches!(pool.entry(index), Some(Const::Dynamic(_, _)))
 }
 
 pub fn names_class(pool: &CheckedPool, index: u16) -> bool

@@ -46,7 +46,7 @@ pub enum Form {
     AnyMethod,
     /// An index of an interface's method, the count of its argument words, and a byte 0.
     Interface,
-    /// An index, and two bytes 0, of a dynamic call.
+    /// An index of a dynamic call, and two bytes 0.
     Dynamic,
     /// An index of a class.
     Class,

@@ -1,15 +1,15 @@
 //! Reading what stands behind an opcode. All items are read before any is judged, so that passing
 //! the code's end is told first.
 
-ghost use Rattle.std.specs.Prelude.{◌≡◌, ◌+◌, ◌<◌, ◌^◌};
+ghost use Rattle.std.specs.Prelude.{◌≡◌, ◌+◌, ◌<◌, ◌^◌, length};
 ghost use Rattle.mt_insn.specs.Item.{ReadsCode};
 ghost use Rattle.mt_insn.specs.Named.{is_field, is_method, is_any_method, is_class};
-ghost use Rattle.mt_insn.specs.Operands.{small_number_at, wide_number_at, small_constant_at, constant_at, long_constant_at, local_at, increment_at, wide_local_at, wide_increment_at, jump_at, far_jump_at, named_at, interface_at, array_at, dimensions_at, refused_at};
+ghost use Rattle.mt_insn.specs.Operands.{small_number_at, wide_number_at, small_constant_at, constant_at, long_constant_at, local_at, increment_at, wide_local_at, wide_increment_at, jump_at, far_jump_at, named_at, interface_at, dynamic_at, array_at, dimensions_at, refused_at};
 
 use crate::cursor::CodeCursor;
 use crate::named::{
     array_refusal, is_array_kind, loaded_refusal, long_refusal, names_any_method, names_class,
-    names_field, names_interface_method, names_loaded, names_long, names_method,
+    names_dynamic, names_field, names_interface_method, names_loaded, names_long, names_method,
 };
 use crate::raw::Operand;
 use crate::words::is_counted;
@@ -206,6 +206,31 @@ pub fn read_interface(
         return Err(ClassFault::BadLength { at });
     }
     Ok(Operand::Done(Arg::Multi(index, count)))
+}
+
+/// `invokedynamic`.
+#[tactic(auto, unfolding(crate::specs::Operands::dynamic_at))]
+pub fn read_dynamic(
+    pool: &CheckedPool,
+    at: u64,
+    code: &mut CodeCursor,
+) -> Result<Operand, ClassFault>
+    requires { at + 1 + length code.old.bytes < 2 ^ 64 }
+    ensures { ReadsCode (dynamic_at pool.now at) code.old code.new result }
+{
+    let index = code.u2(at)?;
+    let first = code.u1(at)?;
+    let second = code.u1(at)?;
+    if !names_dynamic(pool, index) {
+        return Err(ClassFault::BadIndex { at: at + 1 });
+    }
+    if first != 0 {
+        return Err(ClassFault::Padding { at: at + 3 });
+    }
+    if second != 0 {
+        return Err(ClassFault::Padding { at: at + 4 });
+    }
+    Ok(Operand::Done(Arg::Pool(index)))
 }
 
 #[tactic(auto, unfolding(crate::specs::Operands::array_at))]

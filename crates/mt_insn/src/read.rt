@@ -8,10 +8,10 @@ ghost use Rattle.mt_insn.specs.Reading.{operand_at, widened_at, wide_at, formed_
 use crate::cursor::CodeCursor;
 use crate::opcode::{Form, WIDE, form_of};
 use crate::operand::{
-    read_any_method, read_array, read_class, read_constant, read_dimensions, read_far_jump,
-    read_field, read_increment, read_interface, read_jump, read_local, read_long_constant,
-    read_method, read_number, read_small_constant, read_small_number, read_wide_increment,
-    read_wide_local, refuse,
+    read_any_method, read_array, read_class, read_constant, read_dimensions, read_dynamic,
+    read_far_jump, read_field, read_increment, read_interface, read_jump, read_local,
+    read_long_constant, read_method, read_number, read_small_constant, read_small_number,
+    read_wide_increment, read_wide_local, refuse,
 };
 use crate::raw::{Operand, RawInsn};
 use crate::switch::{read_lookup, read_table};
@@ -28,7 +28,7 @@ fn read_operand(
     form: Form,
     code: &mut CodeCursor,
 ) -> Result<Operand, ClassFault>
-    requires place { at + 1 < 2 ^ 64 }
+    requires place { at + 1 + length code.old.bytes < 2 ^ 64 }
     requires room { base + code.old.at + length code.old.bytes < 2 ^ 64 }
     ensures { ReadsCode (operand_at base pool.now at form) code.old code.new result }
 {
@@ -51,7 +51,7 @@ fn read_operand(
         Form::Method => read_method(pool, at, code),
         Form::AnyMethod => read_any_method(pool, at, code),
         Form::Interface => read_interface(pool, at, code),
-        Form::Dynamic => refuse(ClassFault::DynamicUsed { at }, 4, at, code),
+        Form::Dynamic => read_dynamic(pool, at, code),
         Form::Class => read_class(pool, at, code),
         Form::Array => read_array(at, code),
         Form::Dimensions => read_dimensions(pool, at, code),
@@ -95,7 +95,7 @@ fn read_formed(
     op: u8,
     code: &mut CodeCursor,
 ) -> Result<RawInsn, ClassFault>
-    requires place { at + 1 < 2 ^ 64 }
+    requires place { at + 1 + length code.old.bytes < 2 ^ 64 }
     requires room { base + code.old.at + length code.old.bytes < 2 ^ 64 }
     ensures { ReadsCode (formed_at base pool.now at op (form_of op)) code.old code.new result }
 {

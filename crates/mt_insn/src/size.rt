@@ -35,7 +35,7 @@ fn operand_size(form: Form, place: u64, arg: &Arg) -> u128
     ensures bound { result < 2 ^ 68 }
 {
     match form {
-        Form::Plain | Form::Float | Form::FloatLocal | Form::Dynamic => 0,
+        Form::Plain | Form::Float | Form::FloatLocal => 0,
         Form::SmallNumber | Form::SmallConstant | Form::Local | Form::Array => 1,
         Form::Number
         | Form::Constant
@@ -47,7 +47,7 @@ fn operand_size(form: Form, place: u64, arg: &Arg) -> u128
         | Form::AnyMethod
         | Form::Class => 2,
         Form::Dimensions => 3,
-        Form::FarJump | Form::Interface => 4,
+        Form::FarJump | Form::Interface | Form::Dynamic => 4,
         Form::Table => u128::from(padding(place)) + (12 + 4 * table_keys(arg) as u128),
         Form::Lookup => u128::from(padding(place)) + (8 + 8 * lookup_keys(arg) as u128),
     }

@@ -147,6 +147,11 @@ fn write_fixed(form: Form, arg: &Arg, out: &mut Bytes) -> Result<(), Memory>
             put_u1(out, count(arg))?;
             put_u1(out, 0)
         }
+        Form::Dynamic => {
+            put_u2(out, index(arg))?;
+            put_u1(out, 0)?;
+            put_u1(out, 0)
+        }
         Form::Array => put_u1(out, kind(arg)),
         Form::Dimensions => {
             put_u2(out, index(arg))?;

@@ -40,8 +40,8 @@ class_text_again : (place : ℕ) (name : List ℕ) → IsClassEntryName name →
 class_text_again place name h = by (starts_with nat_eq name (codes "[")) refl
   where
     by : (test : Bool) → starts_with nat_eq name (codes "[") ≡ test → class_text_fault place name ≡ good
-    by true is = let same : class_text_fault place name ≡ desc_verdict place (field_kind name) = rw is refl in same ∙ ap (desc_verdict place) (read_from_HasKind name (h is)).1
-    by false is = rw is refl
+    by true is = let same : class_text_fault place name ≡ desc_verdict place (field_kind name) = rw is refl in same ∙ ap (desc_verdict place) (read_from_HasKind name (h.array is)).1
+    by false is = rw (is, h.plain) refl
 
 -- a method's descriptor is outside the grammar of field descriptors
 bad_outside : (desc : List ℕ) (o : Option FieldType) → field_type_of desc ≡ o → is_some o ≡ false → field_kind desc ≡ Err desc_fault.Bad

@@ -1,10 +1,11 @@
 -- Nothing is told of the entries of a pool exactly where their indices are right.
 use Rattle.std.proofs.Common.{◌≡◌, ℕ, zero, suc, ◌+◌, ◌-◌, ◌^◌, ◌<◌, ◌⊎◌, inl, inr, Bool, true, false, not, eqb, List, [], ◌∷◌, length, Option, Some, None, Result, Ok, Err, refl, sym, ap, subst, ◌∙◌, arith}
-use Rattle.std.specs.Prelude.{IsTrue, IsSome, IsSomeAnd, is_some, slice_get, option_and_then}
-use Rattle.std.specs.List.{AllByRecursion}
+use Rattle.std.specs.Prelude.{IsTrue, IsSome, IsSomeAnd, is_some, slice_get, option_and_then, nat_eq, codes}
+use Rattle.std.specs.List.{AllByRecursion, starts_with}
 use Rattle.std.proofs.lemmas.Bool.{eqb-true}
 use Rattle.std.proofs.lemmas.Option.{slice_get_within}
 use Rattle.class_model.specs.DescriptorReading.{field_type_of, method_descriptor_of, field_kind, method_kinds}
+use Rattle.class_model.specs.DeclaredName.{is_site_name}
 use Rattle.class_model.specs.Pool.{entry_of, class_in, pair_in, text_of, class_name_of, pair_desc_of, HasKind, HasMethodType, is_handle, IsClassEntryName, IsEntry}
 use Rattle.class_model.specs.Descriptor.{FieldType, MethodDescriptor}
 use Rattle.class_model.specs.declared.constant.Const.{Const}
@@ -15,7 +16,7 @@ use Rattle.class_model.specs.declared.fault.DescFault.{DescFault}
 use Rattle.class_model.specs.declared.fault.DescFault.TheVariants as desc_fault
 use Rattle.class_model.proofs.DescriptorLaws.{field_again}
 use Rattle.class_model.proofs.MethodLaws.{method_again}
-use Rattle.class_model.proofs.PoolLaws.{HasKind-from_read, HasMethodType-from_read}
+use Rattle.class_model.proofs.PoolLaws.{HasKind-from_read, HasMethodType-from_read, bracket_plain}
 use Rattle.codec_rules.proofs.Sequence.{bind_ok}
 use Rattle.mt_pool.specs.Spelling.{entry_bytes}
 use Rattle.mt_pool.specs.Indices.{Verdict, required, desc_verdict, either_desc_verdict, method_text_fault, member_text_fault, class_text_fault, any_text_fault, text_fault, class_fault, is_of_field, is_of_method, is_some_and, pair_fault, member_fault, entry_fault, first_fault}
@@ -137,10 +138,19 @@ only_method desc (inl h) e = let there : is_of_field desc ≡ true = ap is_some 
 only_method desc (inr h) e = h
 
 class_text_passed : (place : ℕ) (name : List ℕ) → class_text_fault place name ≡ good → IsClassEntryName name
-class_text_passed place name e array =
-    let same : class_text_fault place name ≡ desc_verdict place (field_kind name) = rw array refl in
-    let k = desc_passed place (field_kind name) (sym same ∙ e) in
-    HasKind-from_read name k.0 k.1
+class_text_passed place name e = record {
+  array = λ is.
+      let same : class_text_fault place name ≡ desc_verdict place (field_kind name) = rw is refl in
+      let k = desc_passed place (field_kind name) (sym same ∙ e) in
+      HasKind-from_read name k.0 k.1;
+  plain = plain_by (starts_with nat_eq name (codes "[")) refl;
+}
+  where
+    plain_by : (test : Bool) → starts_with nat_eq name (codes "[") ≡ test → is_site_name name ≡ false
+    plain_by true is = bracket_plain name is
+    plain_by false is =
+        let same : class_text_fault place name ≡ required (not (is_site_name name)) (fault.BadText place) = rw is refl in
+        not_true (is_site_name name) (passed (not (is_site_name name)) (fault.BadText place) (sym same ∙ e))
 
 -- ---- an entry of which nothing is told has right indices, where nothing is told of the others
 

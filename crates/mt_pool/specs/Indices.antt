@@ -4,6 +4,7 @@
 use Rattle.std.specs.Prelude.{ℕ, ◌+◌, Bool, false, is_some, not, nat_eq, List, [], ◌∷◌, length, codes, Option, Some, None, option_and_then, Result, Ok, Err, if◌then◌else◌}
 use Rattle.std.specs.Prelude.{⊤}
 use Rattle.std.specs.List.{starts_with}
+use Rattle.class_model.specs.DeclaredName.{is_site_name}
 use Rattle.class_model.specs.Pool.{entry_of, text_of, class_in, pair_in, is_handle}
 use Rattle.class_model.specs.DescriptorReading.{field_type_of, method_descriptor_of, field_kind, method_kinds}
 use Rattle.class_model.specs.declared.constant.Const.{Const}
@@ -47,10 +48,12 @@ method_text_fault place desc = desc_verdict place (method_kinds desc)
 abbrev pub member_text_fault : ℕ → List ℕ → Verdict
 member_text_fault place desc = either_desc_verdict place (field_kind desc) (method_kinds desc)
 
--- A class's name is under no rule, unless it begins with `[`: then it is an array's descriptor.
+-- A class's name is none of a call site's class, and under no other rule, unless it begins with `[`:
+-- then it is an array's descriptor.
 abbrev pub class_text_fault : ℕ → List ℕ → Verdict
 class_text_fault place name =
-    if starts_with nat_eq name (codes "[") then desc_verdict place (field_kind name) else Ok tt
+    if starts_with nat_eq name (codes "[") then desc_verdict place (field_kind name)
+    else required (not (is_site_name name)) (fault.BadText place)
 
 abbrev pub any_text_fault : ℕ → List ℕ → Verdict
 any_text_fault place units = Ok tt

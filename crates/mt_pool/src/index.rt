@@ -12,7 +12,7 @@ ghost use Rattle.mt_pool.specs.Indices.{required, desc_fault_at, desc_verdict, m
 
 use crate::named::{entry_of, names_class, pair_of};
 use crate::size::size;
-use class_model::{CheckedPool, ClassFault, Const, DescFault, Name, Verdict};
+use class_model::{CheckedPool, ClassFault, Const, DescFault, Name, Verdict, is_site_name};
 use std::alloc::Global;
 
 const ARRAY: u16 = b'[' as u16;
@@ -66,13 +66,16 @@ fn check_member_text(at: u64, desc: &Name, verdict: Verdict) -> Result<(), Class
     }
 }
 
-// A class's name that begins with `[` has to be an array's descriptor.
+// A class's name that begins with `[` has to be an array's descriptor, and none may be that of a
+// call site's class.
 fn check_class_text(at: u64, name: &Name, verdict: Verdict) -> Result<(), ClassFault>
     requires { verdict ≡ verdict_of name.now }
     ensures { Gives fault.Memory (λ u. u) (class_text_fault at name.now) result }
 {
     if name.as_slice().starts_with(&[ARRAY]) {
         check_field_text(at, name, verdict.field)
+    } else if is_site_name(name.as_slice()) {
+        Err(ClassFault::BadText { at })
     } else {
         Ok(())
     }

@@ -41,7 +41,7 @@ in_some class pool number member None = refl
 in_some class pool number member (Some code) = in_code _ 0 (out-Code code).insns
 
 in_method : (class : List ℕ) (pool : List Const) (number : ℕ) (member : Member) → length (method_mutants class pool number member) ≡ method_count pool member
-in_method class pool number member = by (is_left_out member.flags)
+in_method class pool number member = by (is_left_out pool member)
   where
     by : (b : Bool) → length (if b then [] else code_mutants class pool number member (code_of member.attrs)) ≡ (if b then 0 else code_count pool member (code_of member.attrs))
     by true = refl

@@ -52,21 +52,21 @@ each_method P class pool number (member ∷ members) p =
 
 -- of the mutants of a method: those of its code, where it has one and isn't left out
 each_of_method : (P : Mutant → Type 0) (class : List ℕ) (pool : List Const) (number : ℕ) (member : Member)
-    → ((code : Code) → is_left_out member.flags ≡ false → code_of member.attrs ≡ Some code → Each P (mutants_from (place_in class pool number member code) 0 (out-Code code).insns))
+    → ((code : Code) → is_left_out pool member ≡ false → code_of member.attrs ≡ Some code → Each P (mutants_from (place_in class pool number member code) 0 (out-Code code).insns))
     → Each P (method_mutants class pool number member)
-each_of_method P class pool number member p = by (is_left_out member.flags) refl
+each_of_method P class pool number member p = by (is_left_out pool member) refl
   where
-    some : is_left_out member.flags ≡ false → (o : Option Code) → code_of member.attrs ≡ o → Each P (code_mutants class pool number member o)
+    some : is_left_out pool member ≡ false → (o : Option Code) → code_of member.attrs ≡ o → Each P (code_mutants class pool number member o)
     some kept None e = tt
     some kept (Some code) e = p code kept e
 
-    by : (b : Bool) → is_left_out member.flags ≡ b → Each P (if b then [] else code_mutants class pool number member (code_of member.attrs))
+    by : (b : Bool) → is_left_out pool member ≡ b → Each P (if b then [] else code_mutants class pool number member (code_of member.attrs))
     by true e = tt
     by false e = some e (code_of member.attrs) refl
 
 -- of the mutants of a class, by the row that makes each
 each_mutant : (P : Mutant → Type 0) (class : Class)
-    → (is_synthetic class.flags ≡ false → (number : ℕ) (member : Member) → slice_get class.methods number ≡ Some member → is_left_out member.flags ≡ false
+    → (is_synthetic class.flags ≡ false → (number : ℕ) (member : Member) → slice_get class.methods number ≡ Some member → is_left_out class.pool member ≡ false
     → (code : Code) → code_of member.attrs ≡ Some code → (at : ℕ) (insn : Insn) → slice_get (out-Code code).insns at ≡ Some insn
     → (mutator : Mutator) (change : Change) → Has mutators mutator → row mutator (place_in (own_name class) class.pool number member code).asked insn ≡ Some change
     → P (mutant_of (place_in (own_name class) class.pool number member code) at insn mutator change))
@@ -191,7 +191,7 @@ in_insns place at (insn ∷ insns) =
     each_row (ComesBefore (mutant_of place at insn mutator change)) place (at + 1 + k) i mutators (λ other c h2 e2. inr (refl, inl (omega arith))))))
 
 in_method : (class : List ℕ) (pool : List Const) (number : ℕ) (member : Member) → Pairs ComesBefore (method_mutants class pool number member)
-in_method class pool number member = by (is_left_out member.flags)
+in_method class pool number member = by (is_left_out pool member)
   where
     some : (o : Option Code) → Pairs ComesBefore (code_mutants class pool number member o)
     some None = tt

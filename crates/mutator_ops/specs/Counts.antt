@@ -26,7 +26,7 @@ code_count pool member (Some code) = rows_in (asked_of pool member) (out-Code co
 
 abbrev pub method_count : List Const → Member → ℕ
 method_count pool member =
-    if is_left_out member.flags then 0 else code_count pool member (code_of member.attrs)
+    if is_left_out pool member then 0 else code_count pool member (code_of member.attrs)
 
 abbrev pub class_count : Class → ℕ
 class_count class =

@@ -25,7 +25,7 @@ pub record IsMutant (class : Class) (m : Mutant) : Type 0 where
   pub real : is_synthetic class.flags ≡ false
   pub member : Member
   pub declared : slice_get class.methods m.edit.method ≡ Some member
-  pub kept : is_left_out member.flags ≡ false
+  pub kept : is_left_out class.pool member ≡ false
   pub code : Code
   pub coded : code_of member.attrs ≡ Some code
   pub insn : Insn

@@ -133,17 +133,26 @@ code_mutants class pool number member None = []
 code_mutants class pool number member (Some code) =
     mutants_from (place_in class pool number member code) 0 (out-Code code).insns
 
--- the flags of JVMS 4.1 and 4.6 whose methods aren't mutated: synthetic, and bridge on methods
+-- ACC_SYNTHETIC of a class or a method, ACC_BRIDGE of a method (JVMS 4.1, 4.6)
 abbrev pub is_synthetic : ℕ → Bool
 is_synthetic flags = not (bit_and flags 0x1000 == 0)
 
-abbrev pub is_left_out : ℕ → Bool
-is_left_out flags = is_synthetic flags || not (bit_and flags 0x0040 == 0)
+abbrev pub is_bridge : ℕ → Bool
+is_bridge flags = not (bit_and flags 0x0040 == 0)
+
+-- A method with the body of a lambda, which a compiler names so and makes synthetic.
+abbrev pub is_lambda : List Const → Member → Bool
+is_lambda pool member = starts_with nat_eq (text_named pool member.name) (codes "lambda$")
+
+-- The methods that aren't mutated: bridges, and synthetic ones but for those of lambdas.
+abbrev pub is_left_out : List Const → Member → Bool
+is_left_out pool member =
+    is_bridge member.flags || is_synthetic member.flags && not (is_lambda pool member)
 
 -- The mutants of a method of a class of this name and constant pool.
 abbrev pub method_mutants : List ℕ → List Const → ℕ → Member → List Mutant
 method_mutants class pool number member =
-    if is_left_out member.flags then []
+    if is_left_out pool member then []
     else code_mutants class pool number member (code_of member.attrs)
 
 -- The mutants of methods, the first of which has a number.

@@ -39,7 +39,7 @@ fn rows_in(asked: &Asked, insns: &[Insn]) -> u64
 fn method_count(pool: &Pool, member: &Member) -> u64
     ensures { result ≡ u64_saturate (method_count pool.now member.now) }
 {
-    if is_left_out(member.flags) {
+    if is_left_out(pool, member) {
         return 0;
     }
     match code_of(member.attrs.as_slice()) {

@@ -1,7 +1,7 @@
 //! The mutants of a class.
 
 ghost use Rattle.std.specs.Prelude.{◌≡◌, ◌++◌, IfOk, OnOk};
-ghost use Rattle.mutator_ops.specs.Mutants.{mutant_by, mutants_by, mutants_from, is_synthetic, is_left_out, method_mutants, methods_mutants, class_mutants};
+ghost use Rattle.mutator_ops.specs.Mutants.{mutant_by, mutants_by, mutants_from, is_synthetic, is_bridge, is_lambda, is_left_out, method_mutants, methods_mutants, class_mutants};
 ghost use Rattle.mutator_ops.specs.Table.{row, mutators};
 
 use crate::mutant::Mutant;
@@ -11,7 +11,11 @@ use crate::pool::Pool;
 use crate::table::{mutators, row};
 use class_link::own_name;
 use class_model::{Class, Insn, Member, Memory, Mutator, Name, Seq};
+use mt_pool::text_of;
 use std::alloc::Global;
+
+/// `lambda$`
+const LAMBDA: [u16; 7] = [108, 97, 109, 98, 100, 97, 36];
 
 // The mutant of one mutator at an instruction, where its row applies.
 fn push_mutant(
@@ -76,11 +80,27 @@ pub fn is_synthetic(flags: u16) -> bool
     flags & 0x1000 != 0
 }
 
-/// The methods aren't mutated that are synthetic or bridges.
-pub fn is_left_out(flags: u16) -> bool
-    ensures { result ≡ is_left_out flags }
+fn is_bridge(flags: u16) -> bool
+    ensures { result ≡ is_bridge flags }
 {
-    is_synthetic(flags) || flags & 0x0040 != 0
+    flags & 0x0040 != 0
+}
+
+/// A method with the body of a lambda, which a compiler names so.
+fn is_lambda(pool: &Pool, member: &Member) -> bool
+    ensures { result ≡ is_lambda pool.now member.now }
+{
+    match text_of(pool.entries(), member.name) {
+        Some(name) => name.as_slice().starts_with(&LAMBDA),
+        None => false,
+    }
+}
+
+/// The methods aren't mutated that are bridges, or synthetic and no lambda's.
+pub fn is_left_out(pool: &Pool, member: &Member) -> bool
+    ensures { result ≡ is_left_out pool.now member.now }
+{
+    is_bridge(member.flags) || is_synthetic(member.flags) && !is_lambda(pool, member)
 }
 
 fn push_method_mutants(
@@ -94,7 +114,7 @@ fn push_method_mutants(
     ensures { OnOk result (
         mutants.new ≡ mutants.old ++ method_mutants class.now pool.now number member.now) }
 {
-    if is_left_out(member.flags) {
+    if is_left_out(pool, member) {
         return Ok(());
     }
     let Some(code) = code_of(member.attrs.as_slice()) else {
@@ -132,7 +152,8 @@ fn push_methods_mutants(
 }
 
 /// The mutants of a class: methods in file order, instructions by number, mutators in the order of
-/// the table. Synthetic and bridge methods and methods of synthetic classes have none.
+/// the table. Bridges, synthetic methods but for those of lambdas, and methods of synthetic
+/// classes have none.
 pub fn class_mutants(alloc: Global, class: &Class) -> Result<Seq<Mutant>, Memory>
     ensures { IfOk result (λ mutants. mutants ≡ class_mutants class.now) }
 {

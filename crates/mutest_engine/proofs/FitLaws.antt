@@ -118,7 +118,7 @@ methods_name : (pool : List Const) (class : Name) (number : ℕ) (members : List
 methods_name pool class number [] = tt
 methods_name pool class number (member ∷ members) =
     appended (Names class) (method_mutants class pool number member) (methods_mutants class pool (number + 1) members)
-    (unless_left_out (is_left_out member.flags) class (code_mutants class pool number member (code_of member.attrs)) (code_name pool class number member (code_of member.attrs)))
+    (unless_left_out (is_left_out pool member) class (code_mutants class pool number member (code_of member.attrs)) (code_name pool class number member (code_of member.attrs)))
     (methods_name pool class (number + 1) members)
 
 own_mutants : (c : Class) → AllByRecursion (Names (own_name c)) (class_mutants c)
