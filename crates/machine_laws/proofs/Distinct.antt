@@ -17,7 +17,7 @@ use Rattle.program_rules.specs.Programs.{Look}
 use Rattle.program_rules.specs.Library.{class_among}
 use Rattle.program_rules.specs.Sites.{Site, is_dynamic, site_prefix, site_name, site_of}
 use Rattle.program_rules.specs.Adapters.{adapter_if, adapters_in_code, adapters_in_body, adapters_in_methods}
-use Rattle.machine_laws.specs.Sited.{has_semicolon, AreDistinct, IsCounted, SitesGiveNames}
+use Rattle.machine_laws.specs.Sited.{has_semicolon, AreDistinct, SitesGiveNames}
 use Rattle.machine_laws.proofs.Sited.{Class, In, step_case, dynamic_is}
 
 -- ---- names of sites

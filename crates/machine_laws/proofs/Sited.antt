@@ -6,16 +6,11 @@ use Rattle.std.specs.Cmp.Lexicographic.{same_text, other_text}
 use Rattle.program_rules.specs.Names.{Name, same}
 use Rattle.program_rules.specs.Instructions.{Instruction, DynamicRef, Nop, NullConstant, IntConstant, LongConstant, TextConstant, ClassConstant, IntLoad, LongLoad, ReferenceLoad, IntStore, LongStore, ReferenceStore, ArrayLoad, ArrayStore, Pop, Pop2, Dup, DupX1, DupX2, Dup2, Dup2X1, Dup2X2, Swap, IntOperation, LongOperation, IntNegate, LongNegate, IntShift, LongShift, Increment, Convert, LongCompare, IfInt, IfInts, IfSame, IfNotSame, IfNull, IfNotNull, Goto, TableSwitch, LookupSwitch, IntReturn, LongReturn, ReferenceReturn, PlainReturn, GetStatic, PutStatic, GetField, PutField, InvokeVirtual, InvokeInterface, InvokeSpecial, InvokeStatic, InvokeDynamic, New, NewArray, NewReferenceArray, NewMultiArray, ArrayLength, Throw, CheckCast, InstanceOf, MonitorEnter, MonitorExit, Unlinked}
 use Rattle.program_rules.specs.Linked.{Linked, LinkedMethod, LinkedCode, HasCode, Bootstrap, code_in}
-use Rattle.program_rules.specs.Outlines.{outline_of, is_interface_class}
 use Rattle.program_rules.specs.Programs.{Look}
-use Rattle.program_rules.specs.Library.{library_classes, class_among, first_of, with_library}
+use Rattle.program_rules.specs.Library.{class_among}
 use Rattle.program_rules.specs.Sites.{Site, is_dynamic, dynamics_before, site_of, site_name, adapter, adapter_method, adapter_code, code_or_none}
-use Rattle.program_rules.specs.Adapters.{is_interface_at, adapter_if, adapters_in_code, adapters_in_body, adapters_in_methods, adapters_of, with_sites}
-use Rattle.program_rules.specs.Adapted.{IsSite, HasAdapters}
-use Rattle.machine_laws.specs.Sited.{AreDistinct, AreApart, SitedHaveAdapters}
-use Rattle.machine_laws.specs.Whole.{is_plain_class, is_plain_instruction, is_plain_code}
-use Rattle.machine_laws.proofs.Closing.{first_true, found_all}
-use Rattle.machine_laws.proofs.Tested.{all_at, library_classes_plain}
+use Rattle.program_rules.specs.Adapters.{is_interface_at, adapter_if, adapters_in_code, adapters_in_body, adapters_in_methods}
+use Rattle.machine_laws.specs.Sited.{AreDistinct}
 use Rattle.machine_laws.proofs.Siteless.{first_of_or, rest_of_or, adapters_siteless}
 
 abbrev pub Class : Type 0

@@ -21,7 +21,7 @@ not_site : (b : Bool) → (if b then false else true) ≡ true → b ≡ false
 not_site true h = cc
 not_site false h = refl
 
-plain_is : (n : Name) → is_plain n ≡ true → IsPlain n
+pub plain_is : (n : Name) → is_plain n ≡ true → IsPlain n
 plain_is n h = not_site (is_site_name n) h
 
 all_plain : (ns : List Name) → list_all is_plain ns ≡ true → ArePlain ns
@@ -57,7 +57,7 @@ module _ (cs : List (Name × Linked)) (tested : are_plain_classes cs ≡ true) w
   abbrev p : Name → Option Linked
   p = with_library cs
 
-  class_plain : (n : Name) (c : Linked) → p n ≡ Some c → is_plain_class c ≡ true
+  pub class_plain : (n : Name) (c : Linked) → p n ≡ Some c → is_plain_class c ≡ true
   class_plain n c e =
       first_is (class_among cs n) (class_among library_classes n) c e (found_all is_plain_class cs n c tested)
       (found_all is_plain_class library_classes n c library_classes_plain)

@@ -1,19 +1,22 @@
 -- A program with the adapters that their names tell has the adapters of its sites.
 use Rattle.std.proofs.Common.{◌≡◌, ◌≢◌, ◌∙◌, inl, inr, ℕ, ◌+◌, Bool, true, false, List, [], ◌∷◌, ◌++◌, Option, Some, None, nat_eq, refl, sym, ap, subst, arith}
 use Rattle.std.specs.Prelude.{◌||◌, ◌&&◌, if◌then◌else◌}
+use Rattle.std.specs.List.{list_all}
 use Rattle.std.specs.Cmp.Lexicographic.{same_text, other_text}
 use Rattle.std.proofs.lemmas.Bool.{eqb-true, and_parts}
 use Rattle.program_rules.specs.Names.{Name, same}
-use Rattle.program_rules.specs.Linked.{Linked, code_in}
+use Rattle.program_rules.specs.Instructions.{Instruction}
+use Rattle.program_rules.specs.Linked.{Linked, LinkedMethod, LinkedCode, Bootstrap, code_in}
 use Rattle.program_rules.specs.Outlines.{outline_of, is_interface_class}
 use Rattle.program_rules.specs.Programs.{Look}
-use Rattle.program_rules.specs.Library.{class_among, first_of}
-use Rattle.program_rules.specs.Sites.{Site, site_prefix, begins_with, is_site_name, site_name, dynamics_before, adapter}
+use Rattle.program_rules.specs.Library.{class_among, first_of, with_library}
+use Rattle.program_rules.specs.Sites.{Site, site_prefix, begins_with, is_site_name, site_name, is_dynamic, dynamics_before, adapter}
 use Rattle.program_rules.specs.Adapters.{is_interface_at, adapters_in_code, adapters_in_body, adapters_in_methods, adapters_in_class, adapters_of, until_semicolon, owner_told, adapter_told, adapters_by, with_adapters}
 use Rattle.program_rules.specs.Adapted.{IsSite, HasAdapters}
-use Rattle.machine_laws.specs.Plain.{IsPlain}
-use Rattle.machine_laws.specs.Sited.{has_semicolon, AreDistinct, IsOfFiles, AdaptersAreTold, ToldAreOfLibrary, PlainTellNone, HasSitesOf, ListedAreTold}
-use Rattle.machine_laws.proofs.Sited.{Class, In, IsAdapter, all_in, among_in, found, methods_adapters, in_code, in_methods, of_adapter}
+use Rattle.machine_laws.specs.Whole.{is_plain_instruction, is_plain_code, are_plain_classes}
+use Rattle.machine_laws.specs.Sited.{has_semicolon, AreDistinct, IsOfFiles, AdaptersAreTold, ToldAreOfLibrary, PlainTellNone, SitelessTellNone, HasSitesOf, ListedAreTold}
+use Rattle.machine_laws.proofs.Tested.{class_plain}
+use Rattle.machine_laws.proofs.Sited.{Class, In, IsAdapter, step_case, all_in, among_in, found, methods_adapters, in_code, in_methods, of_adapter}
 use Rattle.machine_laws.proofs.Distinct.{or_none, none_where, named_in_methods, give_names}
 
 until_is : (owner rest : Name) → has_semicolon owner ≡ false → until_semicolon (owner ++ (59 ∷ rest)) ≡ owner
@@ -112,6 +115,51 @@ told_library p n c e = (let x = are_adapters p n c e in ap (λ (z : Linked). z.l
 
 pub tell_none : PlainTellNone
 tell_none p n plain = ap (λ (b : Bool). if b then adapter_told p (owner_told n) n else None) plain
+
+-- ---- classes without sites
+
+not_dynamic : (b c : Bool) → (if b then false else true) && c ≡ true → b ≡ false
+not_dynamic true c h = absurd cc
+not_dynamic false c h = refl
+
+module _ (p : Look) (class : Name) (bs : List (Option Bootstrap)) where
+  code_siteless : (k j : ℕ) (is : List Instruction) → list_all is_plain_instruction is ≡ true → adapters_in_code p class bs k j is ≡ []
+  code_siteless k j [] h = refl
+  code_siteless k j (i ∷ is) h =
+      let parts = and_parts (is_plain_instruction i) (list_all is_plain_instruction is) h in
+      step_case p class bs k j i is (not_dynamic (is_dynamic i) _ parts.0) ∙ code_siteless k j is parts.1
+
+  body_siteless : (k : ℕ) (o : Option LinkedCode) → is_plain_code o ≡ true → adapters_in_body p class bs k o ≡ []
+  body_siteless k None h = refl
+  body_siteless k (Some code) h = code_siteless k 0 code.instructions (and_parts (list_all is_plain_instruction code.instructions) _ h).0
+
+  methods_siteless : (k : ℕ) (ms : List LinkedMethod) → list_all (λ m. is_plain_code (code_in m.body)) ms ≡ true → adapters_in_methods p class bs k ms ≡ []
+  methods_siteless k [] h = refl
+  methods_siteless k (m ∷ ms) h =
+      let parts = and_parts (is_plain_code (code_in m.body)) (list_all (λ x. is_plain_code (code_in x.body)) ms) h in
+      ap (λ (xs : List Class). xs ++ adapters_in_methods p class bs (suc k) ms) (body_siteless k (code_in m.body) parts.0)
+      ∙ methods_siteless (suc k) ms parts.1
+
+none_either : (b : Bool) (o : Option Linked) → o ≡ None → (if b then o else None) ≡ None
+none_either true o h = h
+none_either false o h = refl
+
+module _ (cs : List Class) (tested : are_plain_classes cs ≡ true) (n : Name) where
+  abbrev siteless : Look
+  siteless = with_library cs
+
+  owner_siteless : (o : Option Linked) → siteless (owner_told n) ≡ o → class_among (adapters_in_class siteless (owner_told n) o) n ≡ None
+  owner_siteless None h = refl
+  owner_siteless (Some c) h =
+      let plain = class_plain cs tested (owner_told n) c h in
+      ap (λ (xs : List Class). class_among xs n)
+      (methods_siteless siteless (owner_told n) c.bootstraps 0 c.methods (and_parts (list_all (λ m. is_plain_code (code_in m.body)) c.methods) _ plain).0)
+
+  none_told : adapters_by siteless n ≡ None
+  none_told = none_either (is_site_name n) (adapter_told siteless (owner_told n) n) (owner_siteless (siteless (owner_told n)) refl)
+
+pub siteless_tell : SitelessTellNone
+siteless_tell cs tested n = none_told cs tested n
 
 -- ---- adapters in a list
 

@@ -4,10 +4,11 @@ use Rattle.std.specs.List.{list_any}
 use Rattle.program_rules.specs.Names.{Name}
 use Rattle.program_rules.specs.Linked.{Linked, LinkedMethod, LinkedCode, HasCode, Bootstrap}
 use Rattle.program_rules.specs.Programs.{Look}
-use Rattle.program_rules.specs.Library.{class_among}
+use Rattle.program_rules.specs.Library.{class_among, with_library}
 use Rattle.program_rules.specs.Adapters.{adapters_in_methods, adapters_in_class, adapters_of, adapters_by, with_adapters}
 use Rattle.program_rules.specs.Adapted.{HasAdapters}
 use Rattle.machine_laws.specs.Plain.{IsPlain}
+use Rattle.machine_laws.specs.Whole.{are_plain_classes}
 
 -- ---- names
 
@@ -53,6 +54,12 @@ ToldAreOfLibrary =
 -- Only names of adapters tell anything.
 abbrev pub PlainTellNone : Type 0
 PlainTellNone = (p : Look) (n : Name) → IsPlain n → adapters_by p n ≡ None
+
+-- Classes without sites tell nothing beside the library.
+abbrev pub SitelessTellNone : Type 0
+SitelessTellNone =
+    (cs : List (Name × Linked)) → are_plain_classes cs ≡ true → (n : Name) →
+    adapters_by (with_library cs) n ≡ None
 
 -- These are the classes of the program that have sites, perhaps with others.
 pub record HasSitesOf (p : Look) (cs : List (Name × Linked)) : Type 0 where

@@ -1,6 +1,6 @@
 -- The adapters of a program's sites (this project's own), in a list and by their names: the name of
 -- one tells the class of its site.
-use Rattle.std.specs.Prelude.{ℕ, suc, nat_eq, if◌then◌else◌, List, [], ◌∷◌, ◌++◌, drop, Option, Some, None}
+use Rattle.std.specs.Prelude.{ℕ, suc, Bool, nat_eq, if◌then◌else◌, List, [], ◌∷◌, ◌++◌, drop, Option, Some, None}
 use Rattle.program_rules.specs.Names.{Name}
 use Rattle.program_rules.specs.Instructions.{Instruction, InvokeDynamic}
 use Rattle.program_rules.specs.Linked.{Linked, LinkedMethod, LinkedCode, Bootstrap, code_in}

@@ -5,10 +5,7 @@ use Rattle.std.specs.Fmt.{decimal}
 use Rattle.program_rules.specs.Names.{Name, same, object_name, is_array_name, instance_initializer}
 use Rattle.program_rules.specs.Kinds.{Kind, OfBoolean, OfByte, OfChar, OfShort, OfInt, OfLong, OfReference, descriptor_in}
 use Rattle.program_rules.specs.Instructions.{Instruction, FieldRef, DynamicRef, ReferenceLoad, IntLoad, LongLoad, Pop, Pop2, Dup, New, GetField, CheckCast, InvokeVirtual, InvokeInterface, InvokeSpecial, InvokeStatic, InvokeDynamic, IntReturn, LongReturn, ReferenceReturn, PlainReturn}
-use Rattle.program_rules.specs.Linked.{Linked, LinkedField, LinkedMethod, LinkedCode, HasCode, Bootstrap, code_in}
-use Rattle.program_rules.specs.Outlines.{outline_of, is_interface_class}
-use Rattle.program_rules.specs.Programs.{Look}
-use Rattle.program_rules.specs.Library.{class_among, first_of, with_library}
+use Rattle.program_rules.specs.Linked.{Linked, LinkedField, LinkedMethod, HasCode, Bootstrap}
 
 -- ---- names of adapters
 
