@@ -90,7 +90,7 @@ entry_at : (u : ℕ) (units : Name) → IsClassEntryName (u ∷ units) → nat_e
 entry_at u units h is =
     let same : u ≡ 91 = eqb-true u 91 is in
     let h' : IsClassEntryName (91 ∷ units) = subst (λ v. IsClassEntryName (v ∷ units)) same h in
-    subst (λ v. IsArrayNamed (v ∷ units)) (sym same) (kind_named (91 ∷ units) (h' refl))
+    subst (λ v. IsArrayNamed (v ∷ units)) (sym same) (kind_named (91 ∷ units) (h'.array refl))
 
 pub entry_name : (name : Name) → IsClassEntryName name → IsNameMeant name
 entry_name [] h = record { array = λ e. absurd cc }
