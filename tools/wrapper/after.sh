@@ -14,7 +14,7 @@ class_fault() {
         8) echo "has a wrong length, count or order, at byte $2" ;;
         9) echo "has a padding byte that isn't 0, at byte $2" ;;
         10) echo "uses float or double at byte $2; $PROFILE$(lowered)" ;;
-        11) echo "has a lambda, a method reference or another dynamic call at byte $2; $PROFILE$(lowered)" ;;
+        11) echo "loads a method handle, a method type or another dynamic constant at byte $2; $PROFILE$(lowered)" ;;
         12) echo "has a place where no instruction starts, or a row that covers none, at byte $2" ;;
         17) echo "doesn't begin as a class file" ;;
         18) echo "has the major version $2, and 51 or 52 is read: compile with --release 8$(lowered)" ;;

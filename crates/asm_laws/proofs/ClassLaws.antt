@@ -18,30 +18,35 @@ use Rattle.class_model.specs.declared.attribute.Body.TheOpen.{Body-F}
 use Rattle.class_model.specs.declared.attribute.Body.TheViews.{the_lemmas as body_lemmas}
 use Rattle.class_model.specs.declared.fault.DescFault.{DescFault}
 use Rattle.mt_pool.specs.Indices.{is_some_and}
-use Rattle.mt_attrs.specs.Kinds.{known_of, all_unseen}
+use Rattle.mt_attrs.specs.Kinds.{known_of, is_free, all_unseen}
 use Rattle.mt_attrs.specs.CodeParts.{attr_of}
-use Rattle.mt_attrs.specs.Naming.{IsNamedBody, AreNamed}
+use Rattle.mt_attrs.specs.Attributes.{attr_after}
+use Rattle.mt_attrs.specs.Naming.{IsNamedBody, IsNamedAttr, AreNamed}
 use Rattle.mt_attrs.specs.declared.owner.Owner.{Owner}
 use Rattle.mt_attrs.specs.declared.owner.Owner.TheVariants as owner
+use Rattle.mt_attrs.specs.declared.kinds.Known.{Known}
 use Rattle.mt_attrs.specs.declared.kinds.Known.TheVariants as known
 use Rattle.mt_attrs.specs.declared.kinds.Unseen.{Unseen}
 use Rattle.class_reader.specs.Indices.{names_class, names_parent, names_name, names_desc, is_read}
 use Rattle.class_reader.specs.Spells.{IsInterface}
 use Rattle.class_writer.specs.Writing.{IsNamedMember, IsNamedField, IsNamedMethod, IsNamedClass}
-use Rattle.class_asm.specs.Numbering.{text_index, class_index}
+use Rattle.class_asm.specs.Numbering.{text_index, class_index, entry_index, behind}
 use Rattle.class_asm.specs.File.{with_pool}
-use Rattle.class_asm.specs.ClassFile.{code_attr, codes_of, with_notes, attrs_of, member_of, members_of, interfaces_of, with_source, class_of}
+use Rattle.class_asm.specs.ClassFile.{code_attr, codes_of, with_notes, attrs_of, member_of, members_of, interfaces_of, with_source, with_bootstraps, class_of}
+use Rattle.class_asm.specs.BootstrapTable.{bootstrap_of, bootstraps_of, table_bytes}
 use Rattle.class_asm.specs.Assembled.{no_entries}
 use Rattle.class_asm.specs.declared.numbering.Entries.{Entries}
 use Rattle.asm_words.specs.declared.stated.StatedCode.{StatedCode}
 use Rattle.asm_words.specs.declared.stated.StatedMember.{StatedMember}
+use Rattle.asm_words.specs.declared.stated.StatedBootstrap.{StatedBootstrap}
+use Rattle.asm_words.specs.declared.stated.StatedBootstrap.TheVariants as bootstrap
 use Rattle.asm_words.specs.declared.stated.StatedClass.{StatedClass}
-use Rattle.asm_laws.specs.Fit.{IsFitName, SaysClass, IsFitCode, IsFitNote, IsFitField, IsFitMethod, IsFitClass}
+use Rattle.asm_laws.specs.Fit.{IsFitName, SaysClass, IsFitCode, IsFitNote, IsFitBootstrap, IsFitField, IsFitMethod, IsFitClass}
 use Rattle.asm_laws.proofs.PoolLaws.{IsIn, all_in, IsNumberOf, IsFormed, none_formed, pool_formed}
 use Rattle.asm_laws.proofs.Numbered.{stays, made, joined, each_numbered}
-use Rattle.asm_laws.proofs.EntryLaws.{Numbers, text_at, class_at, text_numbered, class_numbered}
+use Rattle.asm_laws.proofs.EntryLaws.{Numbers, IsIndexOf, text_at, class_at, text_numbered, class_numbered, entry_numbered}
 use Rattle.asm_laws.proofs.CodeLaws.{LeadsTo, HasFormed, NumbersIn, lifted}
-use Rattle.asm_laws.proofs.AttrLaws.{given_units, names_is_text, IsNamedAs, attr_named, unseen_behind, AreFree, with_notes_numbered}
+use Rattle.asm_laws.proofs.AttrLaws.{given_units, names_is_text, known_behind, by_push, IsNamedAs, attr_named, unseen_behind, AreFree, with_notes_numbered}
 use Rattle.asm_laws.proofs.TableLaws.{code_numbered}
 
 out_source : (index : ℕ) → out-Body (body.Source index) ≡ Body-F.Source index
@@ -176,6 +181,50 @@ module _ (pool : List Const) (few : length pool + 1 < 2 ^ 16) where
         content = subst (IsNamedBody pool (Some known.Source)) (sym (out_source index.0)) (names_is_text pool source index.0 s);
       }))
 
+-- ---- bootstrap methods
+
+out_raw : (bytes : List ℕ) → out-Body (body.Raw bytes) ≡ Body-F.Raw bytes
+out_raw bytes = search body_lemmas
+
+table_unknown : (pool : List Const) (index : ℕ) → text_of pool index ≡ Some (codes "BootstrapMethods") → known_of pool owner.OfClass index ≡ None
+table_unknown pool index e = rw e refl
+
+-- an attribute that is carried as it is
+carried : (pool : List Const) (unseen : Unseen) (name : ℕ) (bytes : List ℕ) → IsNumberOf pool (const.Utf8 (codes "BootstrapMethods")) name → IsNamedAttr pool owner.OfClass unseen (attr_of name (body.Raw bytes))
+carried pool unseen name bytes n =
+    let known = table_unknown pool name (text_at pool (codes "BootstrapMethods") name n.names) in
+    record {
+      name = names_is_text pool (codes "BootstrapMethods") name n;
+      free = ap (is_free unseen) known;
+      content = subst (λ (k : Option Known). IsNamedBody pool k (out-Body (body.Raw bytes))) (sym known) (subst (IsNamedBody pool None) (sym (out_raw bytes)) tt);
+    }
+
+module _ (pool : List Const) (few : length pool + 1 < 2 ^ 16) where
+  abbrev AnyLine : Bool × ℕ → Type 0
+  AnyLine line = Unit {0}
+
+  line_numbered : (line : StatedBootstrap) (list : List Const) → IsFitBootstrap line → Numbers pool few AnyLine list (bootstrap_of line list)
+  line_numbered (bootstrap.Method e) list fit = made (IsIn pool) (IsFormed pool) (IsIndexOf pool e) AnyLine list (entry_index e list) (true, (entry_index e list).0) (entry_numbered pool few e list fit) (λ is. tt)
+  line_numbered (bootstrap.Argument e) list fit = made (IsIn pool) (IsFormed pool) (IsIndexOf pool e) AnyLine list (entry_index e list) (false, (entry_index e list).0) (entry_numbered pool few e list fit) (λ is. tt)
+
+  lines_numbered : (lines : List StatedBootstrap) (list : List Const) → All IsFitBootstrap lines → Numbers pool few (AllByRecursion AnyLine) list (bootstraps_of lines list)
+  lines_numbered lines list all = each_numbered (IsIn pool) (IsFormed pool) bootstrap_of IsFitBootstrap AnyLine line_numbered lines list all
+
+  table_by : (lines : List StatedBootstrap) (attrs : List Attr) (list : List Const) (none : Bool) → All IsFitBootstrap lines
+      → Numbers pool few (λ later. AreNamed pool owner.OfClass attrs → AreNamed pool owner.OfClass later) list (cond none (attrs, list) (behind (text_index (codes "BootstrapMethods") list) (λ name later. let x = bootstraps_of lines later in (attrs ++ attr_of name (body.Raw (table_bytes x.0)) ∷ [], x.1))))
+  table_by lines attrs list true all = stays (IsIn pool) (IsFormed pool) (λ later. AreNamed pool owner.OfClass attrs → AreNamed pool owner.OfClass later) list attrs (λ is. is)
+  table_by lines attrs list false all =
+      let name = text_index (codes "BootstrapMethods") list in
+      let x = bootstraps_of lines name.1 in
+      let attr = attr_of name.0 (body.Raw (table_bytes x.0)) in
+      joined (IsIn pool) (IsFormed pool) (IsNumberOf pool (const.Utf8 (codes "BootstrapMethods"))) (AllByRecursion AnyLine) (λ later. AreNamed pool owner.OfClass attrs → AreNamed pool owner.OfClass later) list name x (attrs ++ attr ∷ [])
+      (text_numbered pool few (codes "BootstrapMethods") list (given_units (codes "BootstrapMethods") refl))
+      (lines_numbered lines name.1 all)
+      (λ n p is. by_push (IsNamedAttr pool owner.OfClass) (attr_after pool owner.OfClass) all_unseen attrs attr is (carried pool (known_behind (attr_after pool owner.OfClass) all_unseen attrs) name.0 (table_bytes x.0) n))
+
+  pub bootstraps_numbered : (lines : List StatedBootstrap) (attrs : List Attr) (list : List Const) → All IsFitBootstrap lines → Numbers pool few (λ later. AreNamed pool owner.OfClass attrs → AreNamed pool owner.OfClass later) list (with_bootstraps lines attrs list)
+  bootstraps_numbered lines attrs list all = table_by lines attrs list (length lines == 0) all
+
 -- The file's form of a class that fits is named, where no limit is passed.
 pub class_named : (stated : StatedClass) → IsFitClass stated → (class_of stated no_entries).1 ≡ false → length (class_of stated no_entries).0.pool + 1 < 2 ^ 16 → IsNamedClass (class_of stated no_entries).0
 class_named stated fit none few =
@@ -185,7 +234,8 @@ class_named stated fit none few =
     let fields = members_of stated.fields (with_pool no_entries interfaces.1) in
     let methods = members_of stated.methods fields.1 in
     let source = with_source stated.source [] methods.1.pool in
-    let attrs = with_notes stated.notes source.0 source.1 in
+    let notes = with_notes stated.notes source.0 source.1 in
+    let attrs = with_bootstraps stated.bootstraps notes.0 notes.1 in
     let pool = attrs.1 in
     let n_this = class_numbered pool few stated.name [] fit.name in
     let n_parent = class_numbered pool few stated.parent this.1 fit.parent in
@@ -194,8 +244,10 @@ class_named stated fit none few =
     let n_methods = methods_numbered pool few stated.methods fields.1 fit.methods in
     let n_source = source_numbered pool few stated.source methods.1.pool fit.source in
     let n_notes = with_notes_numbered pool few owner.OfClass stated.notes source.0 source.1 fit.notes in
+    let n_table = bootstraps_numbered pool few stated.bootstraps notes.0 notes.1 fit.bootstraps in
     let to_end = all_in pool in
-    let to_source = n_notes.back to_end in
+    let to_notes = n_table.back to_end in
+    let to_source = n_notes.back to_notes in
     let to_methods : LeadsTo pool methods.1 = (none, n_source.back to_source) in
     let to_fields = n_methods.back to_methods in
     let to_interfaces = (n_fields.back to_fields).1 in
@@ -207,11 +259,12 @@ class_named stated fit none few =
     let r_fields = n_fields.right to_fields r_interfaces.1 in
     let r_methods = n_methods.right to_methods r_fields.1 in
     let r_source = n_source.right to_source r_methods.1 in
-    let r_notes = n_notes.right to_end r_source.1 in
+    let r_notes = n_notes.right to_notes r_source.1 in
+    let r_table = n_table.right to_end r_notes.1 in
     record {
       minor = lit< tt;
       major = fit.major;
-      pool = pool_formed pool r_notes.1;
+      pool = pool_formed pool r_table.1;
       flags = fit.flags;
       this = r_this.0.0;
       named = ap (is_some_and is_class_name) (class_at pool stated.name this.0 r_this.0.1) ∙ fit.named;
@@ -220,5 +273,5 @@ class_named stated fit none few =
       interfaces = r_interfaces.0;
       fields = r_fields.0;
       methods = r_methods.0;
-      attrs = r_notes.0 r_source.0;
+      attrs = r_table.0 (r_notes.0 r_source.0);
     }

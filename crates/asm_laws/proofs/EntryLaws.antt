@@ -1,16 +1,16 @@
 -- The index that numbering gives for an entry says what was stated, under each pool that goes on
 -- from the list at last.
 use Rattle.std.proofs.Common.{◌≡◌, ℕ, ◌+◌, ◌^◌, ◌<◌, ◌⊎◌, inl, inr, false, List, length, Option, Some, refl, sym, ap, subst, ◌∙◌}
-use Rattle.std.specs.Prelude.{IsSome, IsSomeAnd, option_and_then}
+use Rattle.std.specs.Prelude.{IsTrue, IsSome, IsSomeAnd, option_and_then}
 use Rattle.class_model.specs.Text.{IsUnits}
-use Rattle.class_model.specs.Pool.{entry_of, class_in, pair_in, text_in, text_of, class_name_of, pair_name_of, pair_desc_of, HasKind, HasMethodType, IsClassEntryName, IsEntry}
+use Rattle.class_model.specs.Pool.{entry_of, class_in, pair_in, text_in, text_of, class_name_of, pair_name_of, pair_desc_of, HasKind, HasMethodType, is_handle, IsClassEntryName, IsEntry}
 use Rattle.class_model.specs.declared.constant.Const.{Const}
 use Rattle.class_model.specs.declared.constant.Const.TheVariants as const
-use Rattle.class_asm.specs.Numbering.{text_index, class_index, string_index, pair_index, member_index, entry_index}
+use Rattle.class_asm.specs.Numbering.{text_index, class_index, string_index, pair_index, member_index, type_index, handle_index, dynamic_index, entry_index}
 use Rattle.asm_words.specs.declared.stated.MemberName.{MemberName}
 use Rattle.asm_words.specs.declared.stated.StatedConstant.{StatedConstant}
 use Rattle.asm_words.specs.declared.stated.StatedConstant.TheVariants as entry
-use Rattle.asm_laws.specs.Fit.{IsFitName, IsFitPart, IsFitEntry, SaysClass, SaysText, SaysPart, Says}
+use Rattle.asm_laws.specs.Fit.{IsFitName, IsFitPart, IsFitType, IsFitSite, IsFitEntry, SaysClass, SaysText, SaysPart, SaysType, SaysHandle, SaysSite, Says}
 use Rattle.asm_laws.proofs.PoolLaws.{IsIn, IsNumberOf, IsOfWidth, IsFormed, interned_is, wide_interned_is}
 use Rattle.asm_laws.proofs.Numbered.{IsNumbered}
 
@@ -120,6 +120,54 @@ module _ (pool : List Const) (few : length pool + 1 < 2 ^ 16) where
             ((part.0.fits, record { class = c.0; pair = p.0; is = part.0.names; owner = owner; name = paired.0.says_name; desc = paired.0.says_desc }), part.1);
       }
 
+  type_numbered : (desc : List ℕ) (list : List Const) → IsFitType desc → Numbers (λ index. (index < 2 ^ 16) × SaysType pool desc index) list (type_index desc list)
+  type_numbered desc list fit =
+      let text = text_index desc list in
+      let first = text_numbered desc list fit.units in
+      let second = interned_is pool (const.MethodKind text.0) text.1 few (record { unlike = λ e. cc; width = refl }) in
+      record {
+        back = λ e. first.back (second.back e);
+        right = λ e f.
+            let named = first.right (second.back e) f in
+            let says = text_at pool desc text.0 named.0.names in
+            let type = second.right e named.1 (and_some (text_of pool text.0) HasMethodType desc says fit.typed) in
+            ((type.0.fits, record { at = text.0; is = type.0.names; says = says }), type.1);
+      }
+
+  method_numbered : (make : ℕ → ℕ → Const) (member : MemberName) (list : List Const) → IsFitPart HasMethodType member
+      → ((class pair : ℕ) → IsOfWidth false (make class pair))
+      → ((class pair : ℕ) → IsSome (class_name_of pool class) → IsSomeAnd (pair_desc_of pool pair) HasMethodType → IsEntry pool (make class pair))
+      → Numbers (λ index. (index < 2 ^ 16) × SaysPart pool make member index) list (member_index make member list)
+  method_numbered make member list fit widths entered = member_numbered make HasMethodType member list fit widths (λ desc h. inr h) entered
+
+  handle_numbered : (make : ℕ → ℕ → Const) (kind : ℕ) (member : MemberName) (list : List Const) → Numbers (λ index. (index < 2 ^ 16) × SaysPart pool make member index) list (member_index make member list)
+      → ((class pair : ℕ) → IsTrue (is_handle kind (make class pair)))
+      → Numbers (λ index. (index < 2 ^ 16) × SaysHandle pool make kind member index) list (handle_index make kind member list)
+  handle_numbered make kind member list first right =
+      let m = member_index make member list in
+      let second = interned_is pool (const.Handle kind m.0) m.1 few (record { unlike = λ e. cc; width = refl }) in
+      record {
+        back = λ e. first.back (second.back e);
+        right = λ e f.
+            let named = first.right (second.back e) f in
+            let part = named.0.1 in
+            let handle = second.right e named.1 (and_some (entry_of pool m.0) (λ c. IsTrue (is_handle kind c)) (make part.class part.pair) part.is (right part.class part.pair)) in
+            ((handle.0.fits, record { at = m.0; is = handle.0.names; method = part }), handle.1);
+      }
+
+  site_numbered : (bootstrap : ℕ) (name desc : List ℕ) (list : List Const) → IsFitSite bootstrap name desc → Numbers (λ index. (index < 2 ^ 16) × SaysSite pool bootstrap name desc index) list (dynamic_index bootstrap name desc list)
+  site_numbered bootstrap name desc list fit =
+      let p = pair_index name desc list in
+      let first = pair_numbered name desc list fit.name fit.type.units (inr fit.type.typed) in
+      let second = interned_is pool (const.Dynamic bootstrap p.0) p.1 few (record { unlike = λ e. cc; width = refl }) in
+      record {
+        back = λ e. first.back (second.back e);
+        right = λ e f.
+            let paired = first.right (second.back e) f in
+            let site = second.right e paired.1 (fit.bootstrap, and_some (pair_desc_of pool p.0) HasMethodType desc paired.0.says_desc fit.type.typed) in
+            ((site.0.fits, record { pair = p.0; is = site.0.names; name = paired.0.says_name; desc = paired.0.says_desc }), site.1);
+      }
+
   pub entry_numbered : (e : StatedConstant) (list : List Const) → IsFitEntry e → Numbers (IsIndexOf pool e) list (entry_index e list)
   entry_numbered (entry.Integer value) list fit =
       let number = interned_is pool (const.Integer value) list few (record { unlike = λ e. cc; width = refl }) in
@@ -132,3 +180,9 @@ module _ (pool : List Const) (few : length pool + 1 < 2 ^ 16) where
   entry_numbered (entry.Field member) list fit = member_numbered const.Field HasKind member list fit (λ class pair. record { unlike = λ e. cc; width = refl }) (λ desc h. inl h) (λ class pair a b. (a, b))
   entry_numbered (entry.Method member) list fit = member_numbered const.Method HasMethodType member list fit (λ class pair. record { unlike = λ e. cc; width = refl }) (λ desc h. inr h) (λ class pair a b. (a, b))
   entry_numbered (entry.InterfaceMethod member) list fit = member_numbered const.IMethod HasMethodType member list fit (λ class pair. record { unlike = λ e. cc; width = refl }) (λ desc h. inr h) (λ class pair a b. (a, b))
+  entry_numbered (entry.MethodType desc) list fit = type_numbered desc list fit
+  entry_numbered (entry.MethodHandle kind member) list fit =
+      handle_numbered const.Method kind member list (method_numbered const.Method member list fit.1 (λ class pair. record { unlike = λ e. cc; width = refl }) (λ class pair a b. (a, b))) (λ class pair. fit.0)
+  entry_numbered (entry.InterfaceHandle kind member) list fit =
+      handle_numbered const.IMethod kind member list (method_numbered const.IMethod member list fit.1 (λ class pair. record { unlike = λ e. cc; width = refl }) (λ class pair a b. (a, b))) (λ class pair. fit.0)
+  entry_numbered (entry.Dynamic bootstrap name desc) list fit = site_numbered bootstrap name desc list fit

@@ -1,6 +1,6 @@
 -- What a text states fits.
 use Rattle.std.proofs.Common.{◌≡◌, ℕ, ◌+◌, Bool, true, false, cond, List, [], ◌∷◌, ◌++◌, length, Option, Some, None, Ok, Err, subst}
-use Rattle.std.specs.Prelude.{Result, IfOk, IfSome, option_and_then}
+use Rattle.std.specs.Prelude.{Result, IfOk, IfSome, option_and_then, not, ◌||◌}
 use Rattle.std.specs.Option.{option_map}
 use Rattle.std.specs.List.{AllByRecursion}
 use Rattle.std.proofs.lemmas.List.Elements.{All-push}
@@ -15,7 +15,7 @@ use Rattle.asm_words.specs.Entries.{is_class_entry}
 use Rattle.asm_words.specs.Operands.{both}
 use Rattle.asm_words.specs.Named as named
 use Rattle.class_asm.specs.Members.{class_note_in, field_of, method_of}
-use Rattle.class_asm.specs.Classes.{empty_class, are_keywords, headed, class_by, class_in, is_past_interfaces, implemented, sourced, class_noted, head_by, head_step, head_from, own_count, own, ended, is_field, with_field, with_method, part_step, is_end, parts_from, stated_by}
+use Rattle.class_asm.specs.Classes.{empty_class, are_keywords, headed, class_by, class_in, is_past_notes, is_past_interfaces, implemented, sourced, class_noted, has_many_bootstraps, with_bootstrap, bootstrapped, argued, head_by, head_step, head_from, own_count, own, ended, is_field, with_field, with_method, part_step, is_end, parts_from, stated_by}
 use Rattle.class_asm.specs.Assembled.{stated_in}
 use Rattle.asm_words.specs.declared.line.Line.{Line}
 use Rattle.class_asm.specs.declared.class.End.{End}
@@ -23,12 +23,15 @@ use Rattle.asm_words.specs.declared.keyword.LineKind.{LineKind}
 use Rattle.asm_words.specs.declared.keyword.LineKind.TheVariants as kind
 use Rattle.class_asm.specs.declared.fault.AsmFault.{AsmFault}
 use Rattle.class_asm.specs.declared.fault.AsmFault.TheVariants as asm_fault
+use Rattle.asm_words.specs.declared.stated.StatedBootstrap.{StatedBootstrap}
+use Rattle.asm_words.specs.declared.stated.StatedBootstrap.TheVariants as bootstrap
 use Rattle.asm_words.specs.declared.stated.StatedClass.{StatedClass}
 use Rattle.asm_words.proofs.IfSome.{of_map, of_then, of_if, of_unless, weaker}
 use Rattle.class_asm.proofs.CodeLaws.{all_none, of_step, of_bind, if_ok, any_ok}
-use Rattle.asm_laws.specs.Fit.{IsFitName, IsFitNote, IsFitField, IsFitMethod, IsFitClass}
+use Rattle.asm_laws.specs.Fit.{IsFitName, IsFitEntry, IsFitNote, IsFitBootstrap, IsFitField, IsFitMethod, IsFitClass}
 use Rattle.asm_laws.proofs.FittingUnits.{AreUnits, IsUnitLine, every_take, lines_are}
 use Rattle.asm_laws.proofs.FittingNames.{fit_name, named_class, class_in_is as name_is}
+use Rattle.asm_laws.proofs.FittingEntries.{handle_is, argument_is}
 use Rattle.asm_laws.proofs.FittingInsns.{both_of}
 use Rattle.asm_laws.proofs.FittingMembers.{IsShort, short_is, class_note_is, method_is, field_is}
 
@@ -51,6 +54,7 @@ headed_is name parent flags major units others few =
       interfaces = all_none IsFitName;
       source = tt;
       notes = all_none IsFitNote;
+      bootstraps = all_none IsFitBootstrap;
       fields = all_none IsFitField;
       methods = all_none IsFitMethod;
     })))
@@ -87,6 +91,7 @@ with_interface class name is fits = record {
   interfaces = All-push IsFitName class.interfaces name is.interfaces fits;
   source = is.source;
   notes = is.notes;
+  bootstraps = is.bootstraps;
   fields = is.fields;
   methods = is.methods;
 }
@@ -101,6 +106,7 @@ with_source class source is units = record {
   interfaces = is.interfaces;
   source = units;
   notes = is.notes;
+  bootstraps = is.bootstraps;
   fields = is.fields;
   methods = is.methods;
 }
@@ -116,7 +122,8 @@ sourced_is class words h is = of_unless (is_past_interfaces class) (both (λ key
     (λ e. both_of (λ keyword word. Some (record class { source = Some word })) words IsFitClass h (λ keyword word units others. with_source class word is others))
 
 class_noted_is : (class : StatedClass) (words : List (List ℕ)) → AreUnits words → IsFitClass class → IfSome (class_noted class words) IsFitClass
-class_noted_is class words h is = of_map (λ note. record class { notes = class.notes ++ note ∷ [] }) (class_note_in words) IsFitClass
+class_noted_is class words h is = of_unless (is_past_notes class) (option_map (λ note. record class { notes = class.notes ++ note ∷ [] }) (class_note_in words)) IsFitClass
+    (λ e. of_map (λ note. record class { notes = class.notes ++ note ∷ [] }) (class_note_in words) IsFitClass
     (weaker (class_note_in words) IsFitNote (λ note. IsFitClass (record class { notes = class.notes ++ note ∷ [] }))
     (λ note fits. record {
       flags = is.flags;
@@ -127,20 +134,51 @@ class_noted_is class words h is = of_map (λ note. record class { notes = class.
       interfaces = is.interfaces;
       source = is.source;
       notes = All-push IsFitNote class.notes note is.notes fits;
+      bootstraps = is.bootstraps;
       fields = is.fields;
       methods = is.methods;
-    }) (class_note_is words h))
+    }) (class_note_is words h)))
 
-head_by_is : (class : StatedClass) (words : List (List ℕ)) (k : LineKind) → AreUnits words → IsFitClass class → IfSome (head_by class words k) IsFitClass
-head_by_is class words kind.Implements h is = implemented_is class words h is
-head_by_is class words kind.Source h is = sourced_is class words h is
-head_by_is class words kind.Note h is = class_noted_is class words h is
-head_by_is class words other h is = tt
+-- one more line of the bootstrap methods
+with_line : (class : StatedClass) (line : StatedBootstrap) → IsFitClass class → IsFitBootstrap line → IsFitClass (with_bootstrap class line)
+with_line class line is fits = record {
+  flags = is.flags;
+  major = is.major;
+  name = is.name;
+  named = is.named;
+  parent = is.parent;
+  interfaces = is.interfaces;
+  source = is.source;
+  notes = is.notes;
+  bootstraps = All-push IsFitBootstrap class.bootstraps line is.bootstraps fits;
+  fields = is.fields;
+  methods = is.methods;
+}
+
+bootstrapped_is : (class : StatedClass) (words : List (List ℕ)) → AreUnits words → IsFitClass class → IfSome (bootstrapped class words) IsFitClass
+bootstrapped_is class [] h is = tt
+bootstrapped_is class (keyword ∷ words) h is = of_unless (has_many_bootstraps class) (option_map (λ e. with_bootstrap class (bootstrap.Method e)) (named.handle words)) IsFitClass
+    (λ few. of_map (λ e. with_bootstrap class (bootstrap.Method e)) (named.handle words) IsFitClass
+    (weaker (named.handle words) IsFitEntry (λ e. IsFitClass (with_bootstrap class (bootstrap.Method e))) (λ e fits. with_line class (bootstrap.Method e) is fits) (handle_is words h.1)))
+
+argued_is : (class : StatedClass) (words : List (List ℕ)) (text : List ℕ) → AreUnits words → IsUnits text → IsFitClass class → IfSome (argued class words text) IsFitClass
+argued_is class [] text h units is = tt
+argued_is class (keyword ∷ words) text h units is = of_unless (not (is_past_notes class) || has_many_bootstraps class) (option_map (λ e. with_bootstrap class (bootstrap.Argument e)) (named.argument words text)) IsFitClass
+    (λ few. of_map (λ e. with_bootstrap class (bootstrap.Argument e)) (named.argument words text) IsFitClass
+    (weaker (named.argument words text) IsFitEntry (λ e. IsFitClass (with_bootstrap class (bootstrap.Argument e))) (λ e fits. with_line class (bootstrap.Argument e) is fits) (argument_is words text h.1 units)))
+
+head_by_is : (class : StatedClass) (words : List (List ℕ)) (text : List ℕ) (k : LineKind) → AreUnits words → IsUnits text → IsFitClass class → IfSome (head_by class words text k) IsFitClass
+head_by_is class words text kind.Implements h units is = implemented_is class words h is
+head_by_is class words text kind.Source h units is = sourced_is class words h is
+head_by_is class words text kind.Note h units is = class_noted_is class words h is
+head_by_is class words text kind.Bootstrap h units is = bootstrapped_is class words h is
+head_by_is class words text kind.Argument h units is = argued_is class words text h units is
+head_by_is class words text other h units is = tt
 
 head_is : (class : StatedClass) (lines : List Line) → AreLines lines → IsFitClass class → IfOk (head_from class lines) IsFitClass
 head_is class [] h is = is
 head_is class (line ∷ lines) h is = of_step (head_step class line) (asm_fault.Line line.number) (λ next. head_from next lines) IsFitClass
-    (weaker (head_step class line) IsFitClass (λ next. IfOk (head_from next lines) IsFitClass) (λ next fits. head_is next lines h.1 fits) (head_by_is class line.words (line_kind line) h.0.words is))
+    (weaker (head_step class line) IsFitClass (λ next. IfOk (head_from next lines) IsFitClass) (λ next fits. head_is next lines h.1 fits) (head_by_is class line.words line.text (line_kind line) h.0.words h.0.text is))
 
 -- ---- members
 
@@ -155,6 +193,7 @@ field_step class first lines units h is = of_bind (field_of first lines) (λ fie
       interfaces = is.interfaces;
       source = is.source;
       notes = is.notes;
+      bootstraps = is.bootstraps;
       fields = All-push IsFitField class.fields field is.fields fits;
       methods = is.methods;
     }) (field_is first lines units h))
@@ -170,6 +209,7 @@ method_step class first lines units h is = of_bind (method_of first lines) (λ m
       interfaces = is.interfaces;
       source = is.source;
       notes = is.notes;
+      bootstraps = is.bootstraps;
       fields = is.fields;
       methods = All-push IsFitMethod class.methods method is.methods fits;
     }) (method_is first lines units h))

@@ -1,7 +1,7 @@
 -- The entries that operands name fit, and wherever a pool has them, they are what the opcode may
 -- name.
-use Rattle.std.proofs.Common.{◌≡◌, ℕ, ◌+◌, Bool, true, cond, List, [], ◌∷◌, Some, None, Result, Ok, Err, refl, ap, ◌∙◌}
-use Rattle.std.specs.Prelude.{◌==◌, IfSome, sum_by, codes, nat_lt}
+use Rattle.std.proofs.Common.{◌≡◌, ℕ, ◌+◌, Bool, true, false, cond, List, [], ◌∷◌, Option, Some, None, Result, Ok, Err, refl, ap, ◌∙◌}
+use Rattle.std.specs.Prelude.{◌==◌, ◌&&◌, IfSome, sum_by, codes, nat_lt, option_and_then}
 use Rattle.std.specs.Option.{option_map}
 use Rattle.std.specs.Result.{is_ok}
 use Rattle.std.proofs.lemmas.Bool.{eq-eqb}
@@ -15,14 +15,14 @@ use Rattle.class_model.specs.declared.fault.DescFault.{DescFault}
 use Rattle.class_model.specs.TextVerdicts.{words as words_of_kind}
 use Rattle.mt_insn.specs.Named.{names, is_some_and, is_loaded, is_field, is_interface_method, counted, desc_counted, entry_counted, is_counted}
 use Rattle.asm_words.specs.Words.{says, last_parted}
-use Rattle.asm_words.specs.Numbers.{between}
+use Rattle.asm_words.specs.Numbers.{up_to, between}
 use Rattle.asm_words.specs.Entries.{is_class_entry, member_name, fits_byte, call_words_of}
-use Rattle.asm_words.specs.Named.{class_in, class_entry, plain_constant, constant, interface_method}
+use Rattle.asm_words.specs.Named.{class_in, class_entry, plain_constant, constant, interface_method, is_of_class, is_of_interface, handle_on, handle, method_type, argument}
 use Rattle.asm_words.specs.Quoted.{is_quoted, quoted_in}
 use Rattle.asm_words.specs.declared.stated.MemberName.{MemberName}
 use Rattle.asm_words.specs.declared.stated.StatedConstant.{StatedConstant}
 use Rattle.asm_words.specs.declared.stated.StatedConstant.TheVariants as entry
-use Rattle.asm_words.proofs.IfSome.{of_map, of_then, of_if, of_else, weaker}
+use Rattle.asm_words.proofs.IfSome.{of_map, of_then, of_if, of_else, weaker, always}
 use Rattle.asm_words.proofs.NumberLaws.{between_is, IsBetween, fits_four}
 use Rattle.asm_laws.specs.Fit.{IsFitName, IsFitPart, IsFitEntry, Says, SaysPart}
 use Rattle.asm_laws.proofs.FittingUnits.{AreUnits, BothUnits, last_parts_are, quoted_is}
@@ -107,3 +107,44 @@ constant_is words line h units = of_else (is_quoted words) (option_map entry.Tex
     (of_map entry.Text (quoted_in line) (IsNamed is_loaded)
     (weaker (quoted_in line) IsUnits (λ text. IsNamed is_loaded (entry.Text text)) (λ text all. record { fits = all; names = λ pool index s. at_entry is_loaded pool index (const.Text s.at) s.is refl }) (quoted_is line units)))
     (plain_constant_is words h)
+
+-- ---- bootstrap methods
+
+true_both : (a b : Bool) → a && b ≡ true → (a ≡ true) × (b ≡ true)
+true_both true b e = (refl, e)
+true_both false b e = absurd cc
+
+handle_on_is : (may_be : ℕ → Bool) (make : ℕ → MemberName → StatedConstant) (word desc : List ℕ) (kind : ℕ) → IsUnits word → IsUnits desc
+    → ((member : MemberName) → may_be kind ≡ true → IsFitPart HasMethodType member → IsFitEntry (make kind member))
+    → IfSome (handle_on may_be make word desc kind) IsFitEntry
+handle_on_is may_be make word desc kind units others fits =
+    of_if (may_be kind && is_ok (method_kinds desc)) (option_map (make kind) (member_name word desc)) IsFitEntry
+    (λ e. let both = true_both (may_be kind) (is_ok (method_kinds desc)) e in
+    of_map (make kind) (member_name word desc) IsFitEntry
+    (weaker (member_name word desc) (λ member. IsFitPart HasMethodType member × (member.desc ≡ desc)) (λ member. IsFitEntry (make kind member)) (λ member h. fits member both.0 h.0) (part_is HasMethodType word desc units others (has_method_type desc both.1))))
+
+kind_of_is : (word : List ℕ) (read : ℕ → Option StatedConstant) → ((kind : ℕ) → IfSome (read kind) IsFitEntry) → IfSome (option_and_then read (up_to 0xFF word)) IsFitEntry
+kind_of_is word read h = of_then read (up_to 0xFF word) IsFitEntry (always (up_to 0xFF word) (λ kind. IfSome (read kind) IsFitEntry) h)
+
+pub handle_is : (words : List (List ℕ)) → AreUnits words → IfSome (handle words) IsFitEntry
+handle_is [] h = tt
+handle_is (a ∷ []) h = tt
+handle_is (a ∷ b ∷ []) h = tt
+handle_is (kind ∷ word ∷ desc ∷ []) h =
+    kind_of_is kind (handle_on is_of_class entry.MethodHandle word desc) (λ k. handle_on_is is_of_class entry.MethodHandle word desc k h.1.0 h.1.1.0 (λ member e fits. (e, fits)))
+handle_is (kind ∷ keyword ∷ word ∷ desc ∷ []) h =
+    of_if (says keyword (codes "interface")) (option_and_then (handle_on is_of_interface entry.InterfaceHandle word desc) (up_to 0xFF kind)) IsFitEntry
+    (λ e. kind_of_is kind (handle_on is_of_interface entry.InterfaceHandle word desc) (λ k. handle_on_is is_of_interface entry.InterfaceHandle word desc k h.1.1.0 h.1.1.1.0 (λ member e fits. (e, fits))))
+handle_is (a ∷ b ∷ c ∷ d ∷ e ∷ words) h = tt
+
+method_type_is : (words : List (List ℕ)) → AreUnits words → IfSome (method_type words) IsFitEntry
+method_type_is [] h = tt
+method_type_is (desc ∷ []) h = of_if (is_ok (method_kinds desc)) (Some (entry.MethodType desc)) IsFitEntry (λ e. record { units = h.0; typed = has_method_type desc e })
+method_type_is (a ∷ b ∷ words) h = tt
+
+pub argument_is : (words : List (List ℕ)) (line : List ℕ) → AreUnits words → IsUnits line → IfSome (argument words line) IsFitEntry
+argument_is [] line h units = tt
+argument_is (first ∷ words) line h units =
+    of_else (says first (codes "type")) (method_type words) (cond (says first (codes "handle")) (handle words) (constant (first ∷ words) line)) IsFitEntry (method_type_is words h.1)
+    (of_else (says first (codes "handle")) (handle words) (constant (first ∷ words) line) IsFitEntry (handle_is words h.1)
+    (weaker (constant (first ∷ words) line) (IsNamed is_loaded) IsFitEntry (λ e n. n.fits) (constant_is (first ∷ words) line h units)))

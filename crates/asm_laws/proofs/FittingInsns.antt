@@ -1,6 +1,6 @@
 -- An instruction that a line states fits: wherever a pool has its entry, it names what its opcode
 -- may name.
-use Rattle.std.proofs.Common.{◌≡◌, ℕ, Bool, true, false, List, [], ◌∷◌, length, Option, Some, None, refl, sym, subst}
+use Rattle.std.proofs.Common.{◌≡◌, ℕ, ◌≤◌, arith, Bool, true, false, List, [], ◌∷◌, length, Option, Some, None, refl, sym, subst}
 use Rattle.std.specs.Prelude.{◌==◌, IfSome, codes, option_and_then}
 use Rattle.std.specs.Option.{option_map}
 use Rattle.std.specs.Result.{is_ok}
@@ -12,7 +12,7 @@ use Rattle.class_model.specs.declared.constant.Const.TheVariants as const
 use Rattle.class_model.specs.declared.instruction.Arg.{Arg}
 use Rattle.class_model.specs.declared.instruction.Arg.TheVariants as arg
 use Rattle.mt_insn.specs.Opcode.{form_of}
-use Rattle.mt_insn.specs.Named.{names, is_loaded, is_long, is_field, is_method, is_any_method, is_class, counted}
+use Rattle.mt_insn.specs.Named.{names, is_loaded, is_long, is_field, is_method, is_any_method, is_dynamic, is_class, counted}
 use Rattle.mt_insn.specs.Code.{HasNames, HasFormedNames, NamesRight}
 use Rattle.mt_insn.specs.declared.opcode.Form.{Form}
 use Rattle.mt_insn.specs.declared.opcode.Form.TheVariants as form
@@ -22,7 +22,7 @@ use Rattle.asm_words.specs.Mnemonics.{opcode_of}
 use Rattle.asm_words.specs.Forms.{usable, operand_form}
 use Rattle.asm_words.specs.Operands.{only, both, small_number, number, local, increment, jump, table, lookup, array}
 use Rattle.asm_words.specs.Entries.{member_name, call_words_of}
-use Rattle.asm_words.specs.Named.{constant, long_constant, field_entry, field, method_entry, method, interface_method, any_method, interface_entry, interface, class_in, class_entry, class, dimensions_entry, dimensions}
+use Rattle.asm_words.specs.Named.{constant, long_constant, field_entry, field, method_entry, method, interface_method, any_method, interface_entry, interface, dynamic, class_in, class_entry, class, dimensions_entry, dimensions}
 use Rattle.asm_words.specs.Insns.{plain, operand_of, plain_insn, wide_arg, wide_insn, insn_by, insn_of}
 use Rattle.asm_words.specs.Stated.{insn_with}
 use Rattle.asm_words.specs.declared.line.Line.{Line}
@@ -33,7 +33,7 @@ use Rattle.asm_words.specs.declared.stated.Operand.{Operand}
 use Rattle.asm_words.specs.declared.stated.Operand.TheVariants as operand
 use Rattle.asm_words.specs.declared.stated.StatedInsn.{StatedInsn}
 use Rattle.asm_words.proofs.IfSome.{of_map, of_then, of_if, of_else, weaker, always}
-use Rattle.asm_words.proofs.NumberLaws.{between_is, IsBetween}
+use Rattle.asm_words.proofs.NumberLaws.{up_to_is, between_is, IsBetween}
 use Rattle.asm_laws.specs.Fit.{IsFitName, IsFitPart, IsFitOperand, IsFitInsn}
 use Rattle.asm_laws.proofs.FittingUnits.{AreUnits, IsUnitLine}
 use Rattle.asm_laws.proofs.FittingNames.{has_kind, has_method_type, class_in_is, fits_eight}
@@ -141,6 +141,24 @@ dimensions_is op words is h = both_of dimensions_entry words (IsFitOperand op fa
     (λ n. of_map (λ name. operand.Counted (entry.Class name) n) (class_in word) (IsFitOperand op false)
     (weaker (class_in word) IsFitName (λ name. IsFitOperand op false (operand.Counted (entry.Class name) n)) (λ name fits. many_is op n name is fits) (class_in_is word units)))))
 
+-- ---- call sites
+
+site_fits : (op n : ℕ) (name desc : List ℕ) → form_of op ≡ Some form.Dynamic → n ≤ 0xFFFF → IsUnits name → IsUnits desc → HasMethodType desc → IsFitOperand op false (operand.Named (entry.Dynamic n name desc))
+site_fits op n name desc is small units others typed =
+    named_fits op form.Dynamic is_dynamic (entry.Dynamic n name desc) is (λ pool index e. e)
+    (record { fits = record { bootstrap = omega (arith, small); name = units; type = record { units = others; typed = typed } }; names = λ pool index s. at_entry is_dynamic pool index (const.Dynamic n s.pair) s.is refl })
+
+dynamic_is : (op : ℕ) (words : List (List ℕ)) → form_of op ≡ Some form.Dynamic → AreUnits words → IfSome (dynamic words) (IsFitOperand op false)
+dynamic_is op [] is h = tt
+dynamic_is op (a ∷ []) is h = tt
+dynamic_is op (a ∷ b ∷ []) is h = tt
+dynamic_is op (number ∷ name ∷ desc ∷ []) is h =
+    of_if (is_ok (method_kinds desc)) (option_map (λ n. operand.Named (entry.Dynamic n name desc)) (up_to 0xFFFF number)) (IsFitOperand op false)
+    (λ e. of_map (λ n. operand.Named (entry.Dynamic n name desc)) (up_to 0xFFFF number) (IsFitOperand op false)
+    (weaker (up_to 0xFFFF number) (λ n. n ≤ 0xFFFF) (λ n. IsFitOperand op false (operand.Named (entry.Dynamic n name desc)))
+    (λ n small. site_fits op n name desc is small h.1.0 h.1.1.0 (has_method_type desc e)) (up_to_is 0xFFFF number)))
+dynamic_is op (a ∷ b ∷ c ∷ d ∷ words) is h = tt
+
 -- ---- any operand
 
 by_form : (labels : Labels) (op : ℕ) (words : List (List ℕ)) (line : List ℕ) (f : Form) → form_of op ≡ Some f → AreUnits words → IsUnits line → IfSome (usable f) (λ w. IfSome (operand_of labels w words line) (IsFitOperand op false))
@@ -162,7 +180,7 @@ by_form labels op words line form.Field is h units = field_is op words is h
 by_form labels op words line form.Method is h units = method_is op words is h
 by_form labels op words line form.AnyMethod is h units = any_method_is op words is h
 by_form labels op words line form.Interface is h units = interface_is op words is h
-by_form labels op words line form.Dynamic is h units = tt
+by_form labels op words line form.Dynamic is h units = dynamic_is op words is h
 by_form labels op words line form.Class is h units = class_is op words is h
 by_form labels op words line form.Array is h units = done_is op form.Array (array words) is (λ pool a. tt)
 by_form labels op words line form.Dimensions is h units = dimensions_is op words is h

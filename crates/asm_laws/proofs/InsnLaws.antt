@@ -122,6 +122,10 @@ constant_are (entry.Text units) h = (quoted_word units, tt)
 constant_are (entry.Field member) h = absurd h
 constant_are (entry.Method member) h = absurd h
 constant_are (entry.InterfaceMethod member) h = absurd h
+constant_are (entry.MethodType desc) h = absurd h
+constant_are (entry.MethodHandle kind member) h = absurd h
+constant_are (entry.InterfaceHandle kind member) h = absurd h
+constant_are (entry.Dynamic bootstrap name desc) h = absurd h
 
 either_word : (b : Bool) (x y : List ℕ) → IsWord x → IsWord y → IsWord (cond b x y)
 either_word true x y p q = p
@@ -159,6 +163,7 @@ operand_are total small form.Field o h = subst (FormWords form.Field) (sym h.2) 
 operand_are total small form.Method o h = subst (FormWords form.Method) (sym h.2) (member_is_word _ h.0 h.1, (h.1.desc, tt))
 operand_are total small form.AnyMethod o h = subst (FormWords form.AnyMethod) (sym h.3) (any_are h.0 h.1 _ h.2)
 operand_are total small form.Interface o h = subst (FormWords form.Interface) (sym h.4) (member_is_word _ h.0 h.2, (h.2.desc, tt))
+operand_are total small form.Dynamic o h = subst (FormWords form.Dynamic) (sym h.7) (number_word h.0 (omega (arith, h.3)), (h.4, (h.5, tt)))
 operand_are total small form.Class o h = subst (FormWords form.Class) (sym h.2) (h.1.word, tt)
 operand_are total small form.Array o h = subst (FormWords form.Array) (sym h.2) (array_is_word h.0, tt)
 operand_are total small form.Dimensions o h = subst (FormWords form.Dimensions) (sym h.4) (h.2.word, (number_word h.1 (omega (arith, h.3)), tt))
@@ -179,6 +184,7 @@ wide_are form.Field o h = absurd h
 wide_are form.Method o h = absurd h
 wide_are form.AnyMethod o h = absurd h
 wide_are form.Interface o h = absurd h
+wide_are form.Dynamic o h = absurd h
 wide_are form.Class o h = absurd h
 wide_are form.Array o h = absurd h
 wide_are form.Dimensions o h = absurd h

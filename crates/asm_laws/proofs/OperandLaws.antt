@@ -22,7 +22,7 @@ use Rattle.asm_laws.specs.HasText.{HasOperand, HasWide}
 use Rattle.asm_laws.specs.Insns.{form_words}
 use Rattle.asm_laws.specs.Statement.{AreLabelled}
 use Rattle.asm_laws.specs.Words.{label, pair_word, joined, Lacks}
-use Rattle.asm_laws.proofs.TextEntryLaws.{constant_is, long_is, field_is, method_is, any_method_is, interface_is, class_operand_is, dimensions_is}
+use Rattle.asm_laws.proofs.TextEntryLaws.{constant_is, long_is, field_is, method_is, any_method_is, interface_is, dynamic_is, class_operand_is, dimensions_is}
 use Rattle.asm_laws.proofs.NumberLaws.{up_to_is, between_is, fits_one, fits_two, fits_four, fits_eight, IsGlyph, signed_glyphs_are, size}
 use Rattle.asm_laws.proofs.WordLaws.{parted_is}
 
@@ -108,6 +108,7 @@ operand_is total labels m known l form.Field o h = subst (IsRead labels m form.F
 operand_is total labels m known l form.Method o h = subst (IsRead labels m form.Method) (sym h.2) (method_is h.0 h.1)
 operand_is total labels m known l form.AnyMethod o h = subst (IsRead labels m form.AnyMethod) (sym h.3) (any_method_is h.0 h.1 h.2)
 operand_is total labels m known l form.Interface o h = subst (IsRead labels m form.Interface) (sym h.4) (interface_is h.0 h.1 h.2 h.3)
+operand_is total labels m known l form.Dynamic o h = subst (IsRead labels m form.Dynamic) (sym h.7) (dynamic_is h.0 h.1 h.2 h.3 h.6)
 operand_is total labels m known l form.Class o h = subst (IsRead labels m form.Class) (sym h.2) (class_operand_is h.0 h.1)
 operand_is total labels m known l form.Array o h = subst (IsRead labels m form.Array) (sym h.2) (ap (λ (x : Option ℕ). finished (option_map arg.Kind x)) h.1)
 operand_is total labels m known l form.Dimensions o h = subst (IsRead labels m form.Dimensions) (sym h.4) (dimensions_is h.0 h.1 h.2 (omega (arith, h.3)))
@@ -132,6 +133,7 @@ wide_is form.Field o h = absurd h
 wide_is form.Method o h = absurd h
 wide_is form.AnyMethod o h = absurd h
 wide_is form.Interface o h = absurd h
+wide_is form.Dynamic o h = absurd h
 wide_is form.Class o h = absurd h
 wide_is form.Array o h = absurd h
 wide_is form.Dimensions o h = absurd h

@@ -1,5 +1,5 @@
 -- A class that has a text, and its text.
-use Rattle.std.proofs.Common.{refl, lit<, lit≤}
+use Rattle.std.proofs.Common.{refl, lit<, lit≤, arith}
 use Rattle.std.specs.Char.{encode_utf8}
 use Rattle.std.specs.Char.Utf16.{utf16_chars}
 use Rattle.std.specs.Fmt.{digits}
@@ -37,6 +37,7 @@ class_has_text = record {
   first = record { flags = lit< tt; major = lit< tt; version = refl; named = refl; parent = refl };
   interfaces = (refl, tt);
   notes = (record { first = record { kind = refl; expected = tt }; plain = refl }, tt);
+  bootstraps = (lit< tt, (refl, record { class = refl; owner = ((λ e. omega (arith, e)), tt); name = ((λ e. omega (arith, e)), tt); whole = ((λ e. omega (arith, e)), tt); desc = record { some = lit< tt; whole = ((λ e. omega (arith, e)), ((λ e. omega (arith, e)), ((λ e. omega (arith, e)), tt))) }; typed = refl }), (lit< tt, lit< tt, refl, tt));
   fields = (record { first = record { flags = lit< tt; named = refl; typed = refl }; notes = tt; plain = refl }, tt);
   methods = (
     record {

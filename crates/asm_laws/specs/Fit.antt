@@ -14,7 +14,10 @@ use Rattle.mt_insn.specs.Code.{NamesRight}
 use Rattle.mt_attrs.specs.Naming.{IsNamedVItem}
 use Rattle.class_reader.specs.Reading.{is_major}
 use Rattle.asm_words.specs.Entries.{is_result_desc}
+use Rattle.asm_words.specs.Named.{is_of_class, is_of_interface}
 use Rattle.asm_words.specs.Stated.{insn_with}
+use Rattle.asm_words.specs.declared.stated.StatedBootstrap.{StatedBootstrap}
+use Rattle.asm_words.specs.declared.stated.StatedBootstrap.TheVariants as bootstrap
 use Rattle.asm_words.specs.declared.stated.MemberName.{MemberName}
 use Rattle.asm_words.specs.declared.stated.StatedConstant.{StatedConstant}
 use Rattle.asm_words.specs.declared.stated.StatedConstant.TheVariants as entry
@@ -46,6 +49,15 @@ pub record IsFitPart (IsDesc : List ℕ → Type 0) (member : MemberName) : Type
   pub desc : IsUnits member.desc
   pub typed : IsDesc member.desc
 
+pub record IsFitType (desc : List ℕ) : Type 0 where
+  pub units : IsUnits desc
+  pub typed : HasMethodType desc
+
+pub record IsFitSite (bootstrap : ℕ) (name desc : List ℕ) : Type 0 where
+  pub bootstrap : bootstrap < 2 ^ 16
+  pub name : IsUnits name
+  pub type : IsFitType desc
+
 abbrev pub IsFitEntry : StatedConstant → Type 0
 IsFitEntry (entry.Integer value) = FitsSigned w32 value
 IsFitEntry (entry.Long value) = FitsSigned w64 value
@@ -54,6 +66,12 @@ IsFitEntry (entry.Text text) = IsUnits text
 IsFitEntry (entry.Field member) = IsFitPart HasKind member
 IsFitEntry (entry.Method member) = IsFitPart HasMethodType member
 IsFitEntry (entry.InterfaceMethod member) = IsFitPart HasMethodType member
+IsFitEntry (entry.MethodType desc) = IsFitType desc
+IsFitEntry (entry.MethodHandle kind member) =
+    IsTrue (is_of_class kind) × IsFitPart HasMethodType member
+IsFitEntry (entry.InterfaceHandle kind member) =
+    IsTrue (is_of_interface kind) × IsFitPart HasMethodType member
+IsFitEntry (entry.Dynamic bootstrap name desc) = IsFitSite bootstrap name desc
 
 -- The pool has at an index a class entry of this name.
 pub record SaysClass (pool : List Const) (name : List ℕ) (index : ℕ) : Type 0 where
@@ -75,6 +93,25 @@ pub record SaysPart (pool : List Const) (make : ℕ → ℕ → Const) (member :
   pub name : pair_name_of pool pair ≡ Some member.name
   pub desc : pair_desc_of pool pair ≡ Some member.desc
 
+-- the same of the type of a method, of a handle on a method, and of a call site
+pub record SaysType (pool : List Const) (desc : List ℕ) (index : ℕ) : Type 0 where
+  pub at : ℕ
+  pub is : entry_of pool index ≡ Some (const.MethodKind at)
+  pub says : text_of pool at ≡ Some desc
+
+pub record SaysHandle (pool : List Const) (make : ℕ → ℕ → Const) (kind : ℕ) (member : MemberName)
+    (index : ℕ) : Type 0 where
+  pub at : ℕ
+  pub is : entry_of pool index ≡ Some (const.Handle kind at)
+  pub method : SaysPart pool make member at
+
+pub record SaysSite (pool : List Const) (bootstrap : ℕ) (name desc : List ℕ) (index : ℕ) : Type 0
+  where
+    pub pair : ℕ
+    pub is : entry_of pool index ≡ Some (const.Dynamic bootstrap pair)
+    pub name : pair_name_of pool pair ≡ Some name
+    pub desc : pair_desc_of pool pair ≡ Some desc
+
 -- The entry at an index is what is stated.
 abbrev pub Says : List Const → StatedConstant → ℕ → Type 0
 Says pool (entry.Integer value) index = entry_of pool index ≡ Some (const.Integer value)
@@ -84,6 +121,10 @@ Says pool (entry.Text text) index = SaysText pool text index
 Says pool (entry.Field member) index = SaysPart pool const.Field member index
 Says pool (entry.Method member) index = SaysPart pool const.Method member index
 Says pool (entry.InterfaceMethod member) index = SaysPart pool const.IMethod member index
+Says pool (entry.MethodType desc) index = SaysType pool desc index
+Says pool (entry.MethodHandle kind member) index = SaysHandle pool const.Method kind member index
+Says pool (entry.InterfaceHandle kind member) index = SaysHandle pool const.IMethod kind member index
+Says pool (entry.Dynamic bootstrap name desc) index = SaysSite pool bootstrap name desc index
 
 -- ---- instructions
 
@@ -136,6 +177,11 @@ pub record IsFitNote (note : StatedNote) : Type 0 where
   pub kind : is_ok (field_kind note.kind) ≡ true
   pub expected : IfSome note.expected IsFitResult
 
+-- a line of the bootstrap methods
+abbrev pub IsFitBootstrap : StatedBootstrap → Type 0
+IsFitBootstrap (bootstrap.Method e) = IsFitEntry e
+IsFitBootstrap (bootstrap.Argument e) = IsFitEntry e
+
 pub record IsFitField (field : StatedMember) : Type 0 where
   pub flags : field.flags < 2 ^ 16
   pub name : IsUnits field.name
@@ -163,5 +209,6 @@ pub record IsFitClass (class : StatedClass) : Type 0 where
   pub interfaces : All IsFitName class.interfaces
   pub source : IfSome class.source IsUnits
   pub notes : All IsFitNote class.notes
+  pub bootstraps : All IsFitBootstrap class.bootstraps
   pub fields : All IsFitField class.fields
   pub methods : All IsFitMethod class.methods

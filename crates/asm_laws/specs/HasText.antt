@@ -87,6 +87,10 @@ HasOperand total form.Interface o =
     (member : MemberName) × (count : ℕ) × IsMember is_method_desc member
     × (call_words_of (method_kinds member.desc) ≡ Some count)
     × (o ≡ operand.Counted (entry.InterfaceMethod member) count)
+HasOperand total form.Dynamic o =
+    (n : ℕ) × (name : List ℕ) × (desc : List ℕ) × (n < 2 ^ 16) × IsWord name × IsWord desc
+    × (is_method_desc desc ≡ true)
+    × (o ≡ operand.Named (entry.Dynamic n name desc))
 HasOperand total form.Class o =
     (name : List ℕ) × IsNamed name × (o ≡ operand.Named (entry.Class name))
 HasOperand total form.Array o =

@@ -64,6 +64,12 @@ entry_words (entry.Field member) = member_word member ∷ member.desc ∷ []
 entry_words (entry.Method member) = member_word member ∷ member.desc ∷ []
 entry_words (entry.InterfaceMethod member) =
     codes "interface" ∷ member_word member ∷ member.desc ∷ []
+entry_words (entry.MethodType desc) = codes "type" ∷ desc ∷ []
+entry_words (entry.MethodHandle kind member) =
+    decimal kind ∷ member_word member ∷ member.desc ∷ []
+entry_words (entry.InterfaceHandle kind member) =
+    decimal kind ∷ codes "interface" ∷ member_word member ∷ member.desc ∷ []
+entry_words (entry.Dynamic bootstrap name desc) = decimal bootstrap ∷ name ∷ desc ∷ []
 
 -- the constant of ldc and ldc_w
 abbrev pub constant_words : StatedConstant → List (List ℕ)

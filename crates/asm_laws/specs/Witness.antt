@@ -4,6 +4,8 @@ use Rattle.std.specs.List.{flat_map}
 use Rattle.class_model.specs.declared.instruction.Arg.TheVariants as arg
 use Rattle.asm_words.specs.Lines.{pieces, lines_from}
 use Rattle.asm_words.specs.declared.stated.Operand.TheVariants as operand
+use Rattle.asm_words.specs.declared.stated.StatedBootstrap.TheVariants as bootstrap
+use Rattle.asm_words.specs.declared.stated.StatedConstant.TheVariants as entry
 use Rattle.asm_words.specs.declared.stated.StatedClass.{StatedClass}
 use Rattle.asm_words.specs.declared.stated.StatedCode.{StatedCode}
 use Rattle.asm_words.specs.declared.stated.StatedInsn.{StatedInsn}
@@ -50,6 +52,9 @@ sample_class = record {
   interfaces = codes "I" ∷ [];
   source = Some (codes "A.java");
   notes = record { kind = codes "LN;"; expected = None } ∷ [];
+  bootstraps =
+      bootstrap.Method (entry.MethodHandle 6 (record { class = codes "B"; name = codes "b"; desc = codes "()V" })) ∷
+      bootstrap.Argument (entry.MethodType (codes "()I")) ∷ [];
   fields = sample_field ∷ [];
   methods = sample_method ∷ [];
 }
@@ -58,7 +63,8 @@ sample_class = record {
 abbrev pub written_lines : List (List ℕ)
 written_lines =
     codes "class A super java/lang/Object flags 33 major 52" ∷ codes "implements I" ∷
-    codes "source A.java" ∷ codes "note LN;" ∷ codes "field 2 n I" ∷
+    codes "source A.java" ∷ codes "note LN;" ∷ codes "bootstrap 6 B.b ()V" ∷
+    codes "argument type ()I" ∷ codes "field 2 n I" ∷
     codes "method 9 f (I)Z stack 2 locals 1"
     ∷ codes "note Lorg/junit/Test; expected LE;" ∷ codes "L0:" ∷ codes "line 3" ∷ codes "iload_0" ∷
     codes "L1:" ∷ codes "ifge L4" ∷ codes "L2:" ∷ codes "iconst_1" ∷ codes "L3:" ∷ codes "ireturn"

@@ -23,7 +23,7 @@ use Rattle.asm_words.specs.Mnemonics.{opcode_of}
 use Rattle.asm_words.specs.Forms.{usable, operand_form}
 use Rattle.asm_words.specs.Operands.{local_up_to, increment_up_to, small_number, number, local, increment, jump, starts_in, has_room, table, pair_in, pairs_in, looked_up, lookup, array_kind, array}
 use Rattle.asm_words.specs.Entries.{member_name, fits_byte, call_words_of}
-use Rattle.asm_words.specs.Named.{constant, long_constant, field_entry, field, method_entry, method, interface_method, any_method, interface_entry, interface, class_in, class_entry, class, dimensions_entry, dimensions}
+use Rattle.asm_words.specs.Named.{constant, long_constant, field_entry, field, method_entry, method, interface_method, any_method, interface_entry, interface, dynamic, class_in, class_entry, class, dimensions_entry, dimensions}
 use Rattle.asm_words.specs.Insns.{plain, operand_of, plain_insn, wide_arg, wide_insn, insn_by, insn_of}
 use Rattle.asm_words.specs.Stated.{insn_with, IsOperand, IsStatedInsn}
 use Rattle.asm_words.specs.declared.line.Line.{Line}
@@ -264,6 +264,15 @@ dimensions_is total op words lt is = of_both dimensions_entry words (IsOperand t
     (λ n few. of_map (λ name. operand.Counted (entry.Class name) n) (class_in word) (IsOperand total op false)
     (always (class_in word) (λ name. IsOperand total op false (operand.Counted (entry.Class name) n)) (λ name index small. has_form op form.Dimensions (arg.Multi index n) lt is (refl, small, omega (arith, few))))) (up_to_is 0xFF count)))
 
+dynamic_is : (total op : ℕ) (words : List (List ℕ)) → op < 2 ^ 8 → form_of op ≡ Some form.Dynamic → IfSome (dynamic words) (IsOperand total op false)
+dynamic_is total op [] lt is = tt
+dynamic_is total op (a ∷ []) lt is = tt
+dynamic_is total op (a ∷ b ∷ []) lt is = tt
+dynamic_is total op (number ∷ name ∷ desc ∷ []) lt is =
+    of_if (is_ok (method_kinds desc)) (option_map (λ n. operand.Named (entry.Dynamic n name desc)) (up_to 0xFFFF number)) (IsOperand total op false)
+    (λ e. named_is total op form.Dynamic (λ n. entry.Dynamic n name desc) (up_to 0xFFFF number) lt is (λ index few. (refl, few)))
+dynamic_is total op (a ∷ b ∷ c ∷ d ∷ words) lt is = tt
+
 -- ---- any operand
 
 by_form : (labels : Labels) (op : ℕ) (words : List (List ℕ)) (line : List ℕ) (f : Form) → op < 2 ^ 8 → form_of op ≡ Some f → IfSome (usable f) (λ w. IfSome (operand_of labels w words line) (IsOperand labels.total op false))
@@ -286,7 +295,7 @@ by_form labels op words line form.Field lt is = field_is labels.total op words l
 by_form labels op words line form.Method lt is = method_is labels.total op words lt is
 by_form labels op words line form.AnyMethod lt is = any_method_is labels.total op words lt is
 by_form labels op words line form.Interface lt is = interface_is labels.total op words lt is
-by_form labels op words line form.Dynamic lt is = tt
+by_form labels op words line form.Dynamic lt is = dynamic_is labels.total op words lt is
 by_form labels op words line form.Class lt is = class_is labels.total op words lt is
 by_form labels op words line form.Array lt is = done_is labels.total op form.Array (array words) lt is (array_is labels.total words)
 by_form labels op words line form.Dimensions lt is = dimensions_is labels.total op words lt is
@@ -306,7 +315,6 @@ wide_by_form total op words form.Increment lt is =
     increment_is 0xFFFF 0x7FFF words (λ a. IsOperand total op true (operand.Done a)) (λ n z le b. (has_wide_form op form.Increment (arg.Inc n z) lt is (refl, omega (arith, le), fits_two z b), tt))
 wide_by_form total op words form.Float lt is = tt
 wide_by_form total op words form.FloatLocal lt is = tt
-wide_by_form total op words form.Dynamic lt is = tt
 wide_by_form total op words other lt is = tt
 
 wide_by_option : (total op : ℕ) (words : List (List ℕ)) (f : Option Form) → op < 2 ^ 8 → form_of op ≡ f → IfSome (option_and_then usable f) (λ w. IfSome (wide_arg w words) (λ a. IsOperand total op true (operand.Done a)))

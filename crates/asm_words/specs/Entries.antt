@@ -1,6 +1,7 @@
 -- What an operand names (this project's own; which names and descriptors may stand there is JVMS
 -- 4.3, 4.4).
-use Rattle.std.specs.Prelude.{ℕ, ◌+◌, ◌==◌, nat_lt, Bool, true, ◌||◌, List, [], ◌∷◌, codes, sum_by, Option, Some, None, option_and_then, Result, Ok, Err, if◌then◌else◌}
+use Rattle.std.specs.Prelude.{ℕ, ◌+◌, ◌==◌, nat_lt, Bool, true, not, ◌||◌, List, [], ◌∷◌, codes, sum_by, Option, Some, None, option_and_then, Result, Ok, Err, if◌then◌else◌}
+use Rattle.class_model.specs.DeclaredName.{is_site_name}
 use Rattle.class_model.specs.DescriptorReading.{field_kind}
 use Rattle.class_model.specs.declared.kind.Kind.{Kind}
 use Rattle.class_model.specs.declared.kind.MethodType.{MethodType}
@@ -13,11 +14,12 @@ use Rattle.asm_words.specs.declared.stated.MemberName.{MemberName}
 abbrev pub is_result_desc : List ℕ → Bool
 is_result_desc desc = says desc (codes "V") || is_ok (field_kind desc)
 
--- An array is named by its descriptor. Other names of classes are under no rule where the class is
--- used.
+-- An array is named by its descriptor. Other names of classes are none of a call site's class, and
+-- under no other rule where the class is used.
 abbrev pub is_class_entry : List ℕ → Bool
 is_class_entry [] = true
-is_class_entry (first ∷ units) = if first == 91 then is_ok (field_kind (first ∷ units)) else true
+is_class_entry (first ∷ units) =
+    if first == 91 then is_ok (field_kind (first ∷ units)) else not (is_site_name (first ∷ units))
 
 -- A member by a word of its class and its name, which the last dot parts, and by its descriptor.
 abbrev pub member_name : List ℕ → List ℕ → Option MemberName

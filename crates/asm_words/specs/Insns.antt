@@ -7,7 +7,7 @@ use Rattle.asm_words.specs.Words.{says}
 use Rattle.asm_words.specs.Mnemonics.{opcode_of}
 use Rattle.asm_words.specs.Forms.{operand_form}
 use Rattle.asm_words.specs.Operands.{small_number, number, local, increment, wide_local, wide_increment, jump, table, lookup, array}
-use Rattle.asm_words.specs.Named.{constant, long_constant, field, method, any_method, interface, class, dimensions}
+use Rattle.asm_words.specs.Named.{constant, long_constant, field, method, any_method, interface, dynamic, class, dimensions}
 use Rattle.asm_words.specs.declared.line.Line.{Line}
 use Rattle.asm_words.specs.declared.labels.Labels.{Labels}
 use Rattle.asm_words.specs.declared.operand_form.OperandForm.{OperandForm}
@@ -39,6 +39,7 @@ operand_of labels form.Field words line = field words
 operand_of labels form.Method words line = method words
 operand_of labels form.AnyMethod words line = any_method words
 operand_of labels form.Interface words line = interface words
+operand_of labels form.Dynamic words line = dynamic words
 operand_of labels form.Class words line = class words
 operand_of labels form.Array words line = done (array words)
 operand_of labels form.Dimensions words line = dimensions words

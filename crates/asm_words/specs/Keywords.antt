@@ -11,6 +11,8 @@ keyword word =
     else if says word (codes "implements") then kind.Implements
     else if says word (codes "source") then kind.Source
     else if says word (codes "note") then kind.Note
+    else if says word (codes "bootstrap") then kind.Bootstrap
+    else if says word (codes "argument") then kind.Argument
     else if says word (codes "field") then kind.Field
     else if says word (codes "method") then kind.Method
     else if says word (codes "end") then kind.End

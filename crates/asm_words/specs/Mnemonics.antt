@@ -1,5 +1,4 @@
--- Opcodes by their mnemonics (JVMS 6.5, 7), in this profile: without floats, jsr, ret, jsr_w and
--- invokedynamic.
+-- Opcodes by their mnemonics (JVMS 6.5, 7), in this profile: without floats, jsr, ret and jsr_w.
 use Rattle.std.specs.Prelude.{ℕ, List, [], ◌∷◌, codes, Option, Some, None, if◌then◌else◌}
 use Rattle.asm_words.specs.Words.{says}
 
@@ -23,8 +22,9 @@ abbrev pub rows_from_putstatic : List (List ℕ × ℕ)
 rows_from_putstatic =
     (codes "putstatic", 0xb3) ∷ (codes "getfield", 0xb4) ∷ (codes "putfield", 0xb5) ∷
     (codes "invokevirtual", 0xb6) ∷ (codes "invokespecial", 0xb7) ∷ (codes "invokestatic", 0xb8) ∷
-    (codes "invokeinterface", 0xb9) ∷ (codes "new", 0xbb) ∷ (codes "newarray", 0xbc) ∷
-    (codes "anewarray", 0xbd) ∷ (codes "arraylength", 0xbe) ∷ (codes "athrow", 0xbf) ∷ []
+    (codes "invokeinterface", 0xb9) ∷ (codes "invokedynamic", 0xba) ∷ (codes "new", 0xbb) ∷
+    (codes "newarray", 0xbc) ∷ (codes "anewarray", 0xbd) ∷ (codes "arraylength", 0xbe) ∷
+    (codes "athrow", 0xbf) ∷ []
 
 unfoldable pub opcode_from_putstatic_on : List ℕ → Option ℕ
 opcode_from_putstatic_on word = looked_up word rows_from_putstatic (opcode_from_checkcast_on word)

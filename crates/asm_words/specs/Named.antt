@@ -1,5 +1,5 @@
 -- Operands that name an entry of the constant pool (JVMS 6.5; their text is this project's own).
-use Rattle.std.specs.Prelude.{ℕ, List, [], ◌∷◌, codes, Option, Some, None, option_and_then, if◌then◌else◌}
+use Rattle.std.specs.Prelude.{ℕ, nat_le, Bool, ◌&&◌, ◌||◌, ◌==◌, List, [], ◌∷◌, codes, Option, Some, None, option_and_then, if◌then◌else◌}
 use Rattle.std.specs.Option.{option_map}
 use Rattle.class_model.specs.DescriptorReading.{field_kind, method_kinds}
 use Rattle.std.specs.Result.{is_ok}
@@ -8,6 +8,7 @@ use Rattle.asm_words.specs.Numbers.{up_to, between}
 use Rattle.asm_words.specs.Operands.{only, both}
 use Rattle.asm_words.specs.Entries.{is_class_entry, member_name, call_words_of}
 use Rattle.asm_words.specs.Quoted.{is_quoted, quoted_in}
+use Rattle.asm_words.specs.declared.stated.MemberName.{MemberName}
 use Rattle.asm_words.specs.declared.stated.StatedConstant.{StatedConstant}
 use Rattle.asm_words.specs.declared.stated.StatedConstant.TheVariants as entry
 use Rattle.asm_words.specs.declared.stated.Operand.{Operand}
@@ -79,6 +80,52 @@ interface_entry word desc =
 
 abbrev pub interface : List (List ℕ) → Option Operand
 interface words = both interface_entry words
+
+-- ---- call sites, and what their bootstrap methods are
+
+-- invokedynamic: the number of a bootstrap method, a name and a descriptor
+abbrev pub dynamic : List (List ℕ) → Option Operand
+dynamic (number ∷ name ∷ desc ∷ []) =
+    if is_ok (method_kinds desc)
+    then option_map (λ n. operand.Named (entry.Dynamic n name desc)) (up_to 0xFFFF number)
+    else None
+dynamic other = None
+
+-- The kinds of handles on a method of a class, and on one of an interface (JVMS 4.4.8).
+abbrev pub is_of_class : ℕ → Bool
+is_of_class kind = nat_le 5 kind && nat_le kind 8
+
+abbrev pub is_of_interface : ℕ → Bool
+is_of_interface kind = kind == 6 || (kind == 7 || kind == 9)
+
+-- a handle of a kind, where the method's descriptor is one
+abbrev pub handle_on :
+    (ℕ → Bool) → (ℕ → MemberName → StatedConstant) → List ℕ → List ℕ → ℕ → Option StatedConstant
+handle_on may_be make word desc kind =
+    if may_be kind && is_ok (method_kinds desc) then option_map (make kind) (member_name word desc)
+    else None
+
+-- a kind and a method, before which `interface` stands where it is one of an interface
+abbrev pub handle : List (List ℕ) → Option StatedConstant
+handle (kind ∷ word ∷ desc ∷ []) =
+    option_and_then (handle_on is_of_class entry.MethodHandle word desc) (up_to 0xFF kind)
+handle (kind ∷ keyword ∷ word ∷ desc ∷ []) =
+    if says keyword (codes "interface")
+    then option_and_then (handle_on is_of_interface entry.InterfaceHandle word desc) (up_to 0xFF kind)
+    else None
+handle other = None
+
+abbrev pub method_type : List (List ℕ) → Option StatedConstant
+method_type words =
+    only (λ desc. if is_ok (method_kinds desc) then Some (entry.MethodType desc) else None) words
+
+-- an argument of a bootstrap method: a type, a handle, or what ldc loads
+abbrev pub argument : List (List ℕ) → List ℕ → Option StatedConstant
+argument [] line = None
+argument (first ∷ words) line =
+    if says first (codes "type") then method_type words
+    else if says first (codes "handle") then handle words
+    else constant (first ∷ words) line
 
 -- ---- classes
 

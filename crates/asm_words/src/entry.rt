@@ -8,7 +8,7 @@ ghost use Rattle.asm_words.specs.Entries.{is_class_entry, is_result_desc, member
 
 use crate::stated::MemberName;
 use crate::{parted_at_last_dot, says};
-use class_model::{DescFault, Kind, Memory, Name, Seq, parse_field, parse_method};
+use class_model::{DescFault, Kind, Memory, Name, Seq, is_site_name, parse_field, parse_method};
 use std::alloc::Global;
 
 const BRACKET: u16 = b'[' as u16;
@@ -51,7 +51,7 @@ pub fn is_class_entry(alloc: Global, name: &Name) -> Result<bool, Memory>
 {
     match name.as_slice() {
         [BRACKET, ..] => is_field_desc(alloc, name),
-        _ => Ok(true),
+        _ => Ok(!is_site_name(name.as_slice())),
     }
 }
 

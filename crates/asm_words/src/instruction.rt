@@ -66,6 +66,7 @@ fn operand_of(
         OperandForm::Method => named::method(alloc, words),
         OperandForm::AnyMethod => named::any_method(alloc, words),
         OperandForm::Interface => named::interface(alloc, words),
+        OperandForm::Dynamic => named::dynamic(alloc, words),
         OperandForm::Class => named::class(alloc, words),
         OperandForm::Array => Ok(done(operand::array(words))),
         OperandForm::Dimensions => named::dimensions(alloc, words),

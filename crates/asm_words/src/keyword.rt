@@ -15,6 +15,8 @@ pub enum LineKind {
     Implements,
     Source,
     Note,
+    Bootstrap,
+    Argument,
     Field,
     Method,
     End,
@@ -36,6 +38,10 @@ fn keyword(word: &Name) -> LineKind
         LineKind::Source
     } else if says(word, "note") {
         LineKind::Note
+    } else if says(word, "bootstrap") {
+        LineKind::Bootstrap
+    } else if says(word, "argument") {
+        LineKind::Argument
     } else if says(word, "field") {
         LineKind::Field
     } else if says(word, "method") {

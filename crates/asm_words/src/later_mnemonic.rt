@@ -156,6 +156,8 @@ fn opcode_from_putstatic_on(word: &Name) -> Option<u8>
         Some(0xb8)
     } else if says(word, "invokeinterface") {
         Some(0xb9)
+    } else if says(word, "invokedynamic") {
+        Some(0xba)
     } else if says(word, "new") {
         Some(0xbb)
     } else if says(word, "newarray") {

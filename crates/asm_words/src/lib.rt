@@ -23,11 +23,11 @@ pub use keyword::{LineKind, begins_part, line_kind};
 pub use known_labels::{KnownLabels, Label};
 pub use labels::{Labels, end_in, is_first, labels_of, start_in};
 pub use line::{Line, lines_in, lines_of};
-pub use named::class_in;
+pub use named::{argument, class_in, handle};
 pub use number::{s4, s8, u1, u2};
 pub use quoted::{is_quoted, quoted_in};
 pub use stated::{
-    MemberName, Operand, StatedClass, StatedCode, StatedConstant, StatedFrame, StatedInsn,
-    StatedItem, StatedMember, StatedNote, StatedRow, StatedShape,
+    MemberName, Operand, StatedBootstrap, StatedClass, StatedCode, StatedConstant, StatedFrame,
+    StatedInsn, StatedItem, StatedMember, StatedNote, StatedRow, StatedShape,
 };
 pub use word::{label_in, parted_at_last_dot, says};

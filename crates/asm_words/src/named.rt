@@ -1,11 +1,13 @@
 //! Operands that name an entry of the constant pool.
 
-ghost use Rattle.std.specs.Prelude.{◌≡◌, IfOk};
-ghost use Rattle.asm_words.specs.Named.{constant, long_constant, field, method, any_method, interface, class, dimensions, class_in, interface_method, class_entry};
+ghost use Rattle.std.specs.Prelude.{◌≡◌, option_and_then, IfOk};
+ghost use Rattle.asm_words.specs.Numbers.{up_to};
+ghost use Rattle.asm_words.specs.Named.{constant, long_constant, field, method, any_method, interface, dynamic, is_of_class, is_of_interface, handle_on, handle, method_type, argument, class, dimensions, class_in, interface_method, class_entry};
+ghost use Rattle.asm_words.specs.declared.stated.StatedConstant.TheVariants as entry;
 
 use crate::entry::{call_words_of, is_class_entry, is_field_desc, is_method_desc, member_name};
 use crate::stated::{Operand, StatedConstant};
-use crate::{is_quoted, quoted_in, s4, s8, says, u1};
+use crate::{is_quoted, quoted_in, s4, s8, says, u1, u2};
 use class_model::{Memory, Name};
 use std::alloc::Global;
 
@@ -138,6 +140,123 @@ pub fn interface(alloc: Global, words: &[Name]) -> Result<Option<Operand>, Memor
     match interface_method(alloc, word, desc)? {
         Some(entry) => Ok(Some(Operand::Counted(entry, count))),
         None => Ok(None),
+    }
+}
+
+/// `invokedynamic`: the number of a bootstrap method, a name and a descriptor.
+pub fn dynamic(alloc: Global, words: &[Name]) -> Result<Option<Operand>, Memory>
+    ensures { IfOk result (λ o. o ≡ dynamic words.now) }
+{
+    let [number, name, desc] = words else {
+        return Ok(None);
+    };
+    if !is_method_desc(alloc, desc)? {
+        return Ok(None);
+    }
+    match u2(number) {
+        Some(number) => {
+            let entry = StatedConstant::Dynamic(number, name.copy()?, desc.copy()?);
+            Ok(Some(Operand::Named(entry)))
+        }
+        None => Ok(None),
+    }
+}
+
+/// The kinds of handles on a method of a class (JVMS 4.4.8).
+fn is_of_class(kind: u8) -> bool
+    ensures { result ≡ is_of_class kind }
+{
+    5 <= kind && kind <= 8
+}
+
+/// Those on a method of an interface.
+fn is_of_interface(kind: u8) -> bool
+    ensures { result ≡ is_of_interface kind }
+{
+    matches!(kind, 6 | 7 | 9)
+}
+
+fn method_handle(
+    alloc: Global,
+    kind: &Name,
+    word: &Name,
+    desc: &Name,
+) -> Result<Option<StatedConstant>, Memory>
+    ensures { IfOk result (λ o. o ≡ option_and_then
+        (handle_on is_of_class entry.MethodHandle word.now desc.now) (up_to 0xFF kind.now)) }
+{
+    let Some(kind) = u1(kind) else {
+        return Ok(None);
+    };
+    if !is_of_class(kind) || !is_method_desc(alloc, desc)? {
+        return Ok(None);
+    }
+    match member_name(alloc, word, desc)? {
+        Some(member) => Ok(Some(StatedConstant::MethodHandle(kind, member))),
+        None => Ok(None),
+    }
+}
+
+fn interface_handle(
+    alloc: Global,
+    kind: &Name,
+    word: &Name,
+    desc: &Name,
+) -> Result<Option<StatedConstant>, Memory>
+    ensures { IfOk result (λ o. o ≡ option_and_then
+        (handle_on is_of_interface entry.InterfaceHandle word.now desc.now) (up_to 0xFF kind.now)) }
+{
+    let Some(kind) = u1(kind) else {
+        return Ok(None);
+    };
+    if !is_of_interface(kind) || !is_method_desc(alloc, desc)? {
+        return Ok(None);
+    }
+    match member_name(alloc, word, desc)? {
+        Some(member) => Ok(Some(StatedConstant::InterfaceHandle(kind, member))),
+        None => Ok(None),
+    }
+}
+
+/// A handle: its kind and a method, before which `interface` stands where it is one of an
+/// interface.
+pub fn handle(alloc: Global, words: &[Name]) -> Result<Option<StatedConstant>, Memory>
+    ensures { IfOk result (λ o. o ≡ handle words.now) }
+{
+    match words {
+        [kind, word, desc] => method_handle(alloc, kind, word, desc),
+        [kind, keyword, word, desc] if says(keyword, "interface") => {
+            interface_handle(alloc, kind, word, desc)
+        }
+        _ => Ok(None),
+    }
+}
+
+fn method_type(alloc: Global, words: &[Name]) -> Result<Option<StatedConstant>, Memory>
+    ensures { IfOk result (λ o. o ≡ method_type words.now) }
+{
+    let [desc] = words else {
+        return Ok(None);
+    };
+    if !is_method_desc(alloc, desc)? {
+        return Ok(None);
+    }
+    Ok(Some(StatedConstant::MethodType(desc.copy()?)))
+}
+
+/// An argument of a bootstrap method: a type, a handle, or what `ldc` loads.
+pub fn argument(
+    alloc: Global,
+    words: &[Name],
+    line: &[u16],
+) -> Result<Option<StatedConstant>, Memory>
+    ensures { IfOk result (λ o. o ≡ argument words.now line.now) }
+{
+    match words {
+        [] => Ok(None),
+        [first, words @ ..] if says(first, "type") => method_type(alloc, words),
+        [first, words @ ..] if says(first, "handle") => handle(alloc, words),
+        _ => constant(alloc, words, line),
     }
 }
 

@@ -20,6 +20,20 @@ pub enum StatedConstant {
     Field(MemberName),
     Method(MemberName),
     InterfaceMethod(MemberName),
+    /// The type of a method by its descriptor.
+    MethodType(Name),
+    /// A handle of this kind (JVMS 4.4.8) on a method of a class, and on one of an interface.
+    MethodHandle(u8, MemberName),
+    InterfaceHandle(u8, MemberName),
+    /// A call site: the number of its bootstrap method, its name and its descriptor.
+    Dynamic(u16, Name, Name),
+}
+
+/// A line of the bootstrap methods (JVMS 4.7.23): a method, or an argument of the one before it.
+#[derive(Drop)]
+pub enum StatedBootstrap {
+    Method(StatedConstant),
+    Argument(StatedConstant),
 }
 
 /// What stands behind an opcode.
@@ -114,6 +128,7 @@ pub struct StatedClass {
     pub interfaces: Seq<Name>,
     pub source: Option<Name>,
     pub notes: Seq<StatedNote>,
+    pub bootstraps: Seq<StatedBootstrap>,
     pub fields: Seq<StatedMember>,
     pub methods: Seq<StatedMember>,
 }

@@ -28,7 +28,8 @@ use Rattle.mt_attrs.proofs.Starts.{starts_ascend}
 use Rattle.class_writer.specs.Writing.{HasMemberForm, HasClassForm}
 use Rattle.class_asm.specs.Numbering.{text_index, class_index, behind}
 use Rattle.class_asm.specs.File.{insn_of, insns_of, item_of, items_of, shape_of, frame_of, frames_of, row_of, rows_of, notes_of, starts_of, places_by, with_pool}
-use Rattle.class_asm.specs.ClassFile.{with_lines, with_frames, framed, code_behind, kept, code_attr, with_notes, codes_of, member_of, members_of, interfaces_of, with_source, class_of}
+use Rattle.class_asm.specs.ClassFile.{with_lines, with_frames, framed, code_behind, kept, code_attr, with_notes, codes_of, member_of, members_of, interfaces_of, with_source, with_bootstraps, class_of}
+use Rattle.class_asm.specs.BootstrapTable.{bootstraps_of, table_bytes}
 use Rattle.asm_words.specs.Stated.{IsStatedItem, IsStatedShape, AreFrames, IsStatedRow, Keeps, IsStatedCode, IsCodeIn, IsStatedMember, IsStatedClass}
 use Rattle.asm_words.specs.declared.stated.StatedItem.{StatedItem}
 use Rattle.asm_words.specs.declared.stated.StatedItem.TheVariants as item
@@ -40,6 +41,7 @@ use Rattle.asm_words.specs.declared.stated.StatedNote.{StatedNote}
 use Rattle.asm_words.specs.declared.stated.StatedCode.{StatedCode}
 use Rattle.asm_words.specs.declared.stated.StatedMember.{StatedMember}
 use Rattle.asm_words.specs.declared.stated.StatedClass.{StatedClass}
+use Rattle.asm_words.specs.declared.stated.StatedBootstrap.{StatedBootstrap}
 use Rattle.class_asm.specs.declared.numbering.Entries.{Entries}
 use Rattle.class_asm.proofs.FormLaws.{insns_formed, each_all, each_length, all_first}
 
@@ -53,6 +55,9 @@ out_source index = search body_lemmas
 
 out_notes : (notes : List Note) → out-Body (body.Notes notes) ≡ Body-F.Notes notes
 out_notes notes = search body_lemmas
+
+out_raw : (bytes : List ℕ) → out-Body (body.Raw bytes) ≡ Body-F.Raw bytes
+out_raw bytes = search body_lemmas
 
 out_lines : (lines : List (ℕ × ℕ)) → out-Body (body.Lines lines) ≡ Body-F.Lines lines
 out_lines lines = search body_lemmas
@@ -223,6 +228,17 @@ source_form (Some source) list =
     let index = text_index source name.1 in
     all_first HasAttrForm (attr_of name.0 (body.Source index.0)) [] (subst HasBodyForm (sym (out_source index.0)) tt) (no_attrs HasAttrForm)
 
+bootstraps_by : (bootstraps : List StatedBootstrap) (attrs : List Attr) (list : List Const) (none : Bool) → All HasAttrForm attrs
+    → All HasAttrForm (cond none (attrs, list) (behind (text_index (codes "BootstrapMethods") list) (λ name later. let x = bootstraps_of bootstraps later in (attrs ++ attr_of name (body.Raw (table_bytes x.0)) ∷ [], x.1)))).0
+bootstraps_by bootstraps attrs list true all = all
+bootstraps_by bootstraps attrs list false all =
+    let name = text_index (codes "BootstrapMethods") list in
+    let bytes = table_bytes (bootstraps_of bootstraps name.1).0 in
+    All-push HasAttrForm attrs (attr_of name.0 (body.Raw bytes)) all (subst HasBodyForm (sym (out_raw bytes)) tt)
+
+bootstraps_form : (bootstraps : List StatedBootstrap) (attrs : List Attr) (list : List Const) → All HasAttrForm attrs → All HasAttrForm (with_bootstraps bootstraps attrs list).0
+bootstraps_form bootstraps attrs list all = bootstraps_by bootstraps attrs list (length bootstraps == 0) all
+
 -- The file's form of a stated class in form may be written.
 pub class_form : (stated : StatedClass) (entries : Entries) → IsStatedClass stated → HasClassForm (class_of stated entries).0
 class_form stated entries is =
@@ -232,8 +248,9 @@ class_form stated entries is =
     let fields = members_of stated.fields (with_pool entries interfaces.1) in
     let methods = members_of stated.methods fields.1 in
     let source = with_source stated.source [] methods.1.pool in
+    let notes = with_notes stated.notes source.0 source.1 in
     record {
       fields = members_form stated.fields (with_pool entries interfaces.1) is.fields;
       methods = members_form stated.methods fields.1 is.methods;
-      attrs = with_notes_form stated.notes source.0 source.1 (source_form stated.source methods.1.pool);
+      attrs = bootstraps_form stated.bootstraps notes.0 notes.1 (with_notes_form stated.notes source.0 source.1 (source_form stated.source methods.1.pool));
     }

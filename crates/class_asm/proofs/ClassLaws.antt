@@ -1,6 +1,6 @@
 -- What lines state is a class in form.
 use Rattle.std.proofs.Common.{◌≡◌, ℕ, Bool, true, false, cond, List, [], ◌∷◌, ◌++◌, Option, Some, None, Ok, refl, sym, subst}
-use Rattle.std.specs.Prelude.{IfOk, IfSome, All, option_and_then}
+use Rattle.std.specs.Prelude.{IfOk, IfSome, All, option_and_then, not, ◌||◌}
 use Rattle.std.specs.Option.{option_map}
 use Rattle.std.proofs.lemmas.List.Elements.{All-push}
 use Rattle.codec_rules.specs.Sequence.{◌>>=◌}
@@ -12,7 +12,7 @@ use Rattle.asm_words.specs.Entries.{is_class_entry}
 use Rattle.asm_words.specs.Operands.{both}
 use Rattle.asm_words.specs.Named as named
 use Rattle.class_asm.specs.Members.{class_note_in, field_of, method_of}
-use Rattle.class_asm.specs.Classes.{empty_class, are_keywords, headed, class_by, class_in, is_past_interfaces, implemented, sourced, class_noted, head_by, head_step, head_from, own, ended, is_field, with_field, with_method, part_step, is_end, parts_from, stated_by}
+use Rattle.class_asm.specs.Classes.{empty_class, are_keywords, headed, class_by, class_in, is_past_notes, is_past_interfaces, implemented, sourced, class_noted, has_many_bootstraps, with_bootstrap, bootstrapped, argued, head_by, head_step, head_from, own, ended, is_field, with_field, with_method, part_step, is_end, parts_from, stated_by}
 use Rattle.asm_words.specs.Stated.{IsStatedMember, IsStatedClass}
 use Rattle.asm_words.specs.declared.line.Line.{Line}
 use Rattle.class_asm.specs.declared.class.End.{End}
@@ -21,6 +21,9 @@ use Rattle.asm_words.specs.declared.keyword.LineKind.TheVariants as kind
 use Rattle.class_asm.specs.declared.fault.AsmFault.{AsmFault}
 use Rattle.class_asm.specs.declared.fault.AsmFault.TheVariants as asm_fault
 use Rattle.asm_words.specs.declared.stated.StatedClass.{StatedClass}
+use Rattle.asm_words.specs.declared.stated.StatedConstant.{StatedConstant}
+use Rattle.asm_words.specs.declared.stated.StatedBootstrap.{StatedBootstrap}
+use Rattle.asm_words.specs.declared.stated.StatedBootstrap.TheVariants as bootstrap
 use Rattle.asm_words.proofs.IfSome.{of_map, of_then, of_if, of_unless, of_both, weaker, always}
 use Rattle.class_asm.proofs.CodeLaws.{of_step, of_bind, if_ok, any_ok, field_is, method_is, all_none}
 
@@ -66,19 +69,36 @@ sourced_is class words is = of_unless (is_past_interfaces class) (both (λ keywo
     (λ e. of_both (λ keyword word. Some (record class { source = Some word })) words IsStatedClass (λ keyword word. same_members class (record class { source = Some word }) refl refl is))
 
 class_noted_is : (class : StatedClass) (words : List (List ℕ)) → IsStatedClass class → IfSome (class_noted class words) IsStatedClass
-class_noted_is class words is = of_map (λ note. record class { notes = class.notes ++ note ∷ [] }) (class_note_in words) IsStatedClass
-    (always (class_note_in words) (λ note. IsStatedClass (record class { notes = class.notes ++ note ∷ [] })) (λ note. same_members class (record class { notes = class.notes ++ note ∷ [] }) refl refl is))
+class_noted_is class words is = of_unless (is_past_notes class) (option_map (λ note. record class { notes = class.notes ++ note ∷ [] }) (class_note_in words)) IsStatedClass
+    (λ e. of_map (λ note. record class { notes = class.notes ++ note ∷ [] }) (class_note_in words) IsStatedClass
+    (always (class_note_in words) (λ note. IsStatedClass (record class { notes = class.notes ++ note ∷ [] })) (λ note. same_members class (record class { notes = class.notes ++ note ∷ [] }) refl refl is)))
 
-head_by_is : (class : StatedClass) (words : List (List ℕ)) (k : LineKind) → IsStatedClass class → IfSome (head_by class words k) IsStatedClass
-head_by_is class words kind.Implements is = implemented_is class words is
-head_by_is class words kind.Source is = sourced_is class words is
-head_by_is class words kind.Note is = class_noted_is class words is
-head_by_is class words other is = tt
+-- one more line of the bootstrap methods
+more_is : (class : StatedClass) (make : StatedConstant → StatedBootstrap) (o : Option StatedConstant) → IsStatedClass class → IfSome (option_map (λ e. with_bootstrap class (make e)) o) IsStatedClass
+more_is class make o is = of_map (λ e. with_bootstrap class (make e)) o IsStatedClass (always o (λ e. IsStatedClass (with_bootstrap class (make e))) (λ e. same_members class (with_bootstrap class (make e)) refl refl is))
+
+bootstrapped_is : (class : StatedClass) (words : List (List ℕ)) → IsStatedClass class → IfSome (bootstrapped class words) IsStatedClass
+bootstrapped_is class [] is = tt
+bootstrapped_is class (keyword ∷ words) is = of_unless (has_many_bootstraps class) (option_map (λ e. with_bootstrap class (bootstrap.Method e)) (named.handle words)) IsStatedClass
+    (λ e. more_is class bootstrap.Method (named.handle words) is)
+
+argued_is : (class : StatedClass) (words : List (List ℕ)) (text : List ℕ) → IsStatedClass class → IfSome (argued class words text) IsStatedClass
+argued_is class [] text is = tt
+argued_is class (keyword ∷ words) text is = of_unless (not (is_past_notes class) || has_many_bootstraps class) (option_map (λ e. with_bootstrap class (bootstrap.Argument e)) (named.argument words text)) IsStatedClass
+    (λ e. more_is class bootstrap.Argument (named.argument words text) is)
+
+head_by_is : (class : StatedClass) (words : List (List ℕ)) (text : List ℕ) (k : LineKind) → IsStatedClass class → IfSome (head_by class words text k) IsStatedClass
+head_by_is class words text kind.Implements is = implemented_is class words is
+head_by_is class words text kind.Source is = sourced_is class words is
+head_by_is class words text kind.Note is = class_noted_is class words is
+head_by_is class words text kind.Bootstrap is = bootstrapped_is class words is
+head_by_is class words text kind.Argument is = argued_is class words text is
+head_by_is class words text other is = tt
 
 head_is : (class : StatedClass) (lines : List Line) → IsStatedClass class → IfOk (head_from class lines) IsStatedClass
 head_is class [] is = is
 head_is class (line ∷ lines) is = of_step (head_step class line) (asm_fault.Line line.number) (λ next. head_from next lines) IsStatedClass
-    (weaker (head_step class line) IsStatedClass (λ next. IfOk (head_from next lines) IsStatedClass) (λ next h. head_is next lines h) (head_by_is class line.words (line_kind line) is))
+    (weaker (head_step class line) IsStatedClass (λ next. IfOk (head_from next lines) IsStatedClass) (λ next h. head_is next lines h) (head_by_is class line.words line.text (line_kind line) is))
 
 field_step : (class : StatedClass) (first : Line) (lines : List Line) → IsStatedClass class → IfOk (field_of first lines >>= λ field. Ok (with_field class field)) IsStatedClass
 field_step class first lines is = of_bind (field_of first lines) (λ field. Ok (with_field class field)) IsStatedClass

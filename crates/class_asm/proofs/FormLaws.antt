@@ -6,7 +6,7 @@ use Rattle.class_model.specs.declared.constant.Const.{Const}
 use Rattle.class_model.specs.declared.constant.Const.TheVariants as const
 use Rattle.class_model.specs.declared.instruction.Insn.{Insn}
 use Rattle.mt_insn.specs.Code.{HasForm, HasTargets}
-use Rattle.class_asm.specs.Numbering.{Numbered, index_of, found_or, added, interned, text_index, parts_index, added_wide, entry_index, is_same}
+use Rattle.class_asm.specs.Numbering.{Numbered, index_of, found_or, added, interned, text_index, pair_index, parts_index, member_index, added_wide, entry_index, is_same}
 use Rattle.class_asm.specs.File.{each, near_index, with_pool, arg_of, insn_of, insns_of}
 use Rattle.asm_words.specs.Stated.{insn_with, IsOperand, IsStatedInsn}
 use Rattle.asm_words.specs.declared.stated.StatedConstant.{StatedConstant}
@@ -40,6 +40,10 @@ entry_is (entry.Text text) list = interned_is (const.Text (text_index text list)
 entry_is (entry.Field member) list = interned_is (const.Field (parts_index member list).0.0 (parts_index member list).0.1) (parts_index member list).1
 entry_is (entry.Method member) list = interned_is (const.Method (parts_index member list).0.0 (parts_index member list).0.1) (parts_index member list).1
 entry_is (entry.InterfaceMethod member) list = interned_is (const.IMethod (parts_index member list).0.0 (parts_index member list).0.1) (parts_index member list).1
+entry_is (entry.MethodType desc) list = interned_is (const.MethodKind (text_index desc list).0) (text_index desc list).1
+entry_is (entry.MethodHandle kind member) list = interned_is (const.Handle kind (member_index const.Method member list).0) (member_index const.Method member list).1
+entry_is (entry.InterfaceHandle kind member) list = interned_is (const.Handle kind (member_index const.IMethod member list).0) (member_index const.IMethod member list).1
+entry_is (entry.Dynamic bootstrap name desc) list = interned_is (const.Dynamic bootstrap (pair_index name desc list).0) (pair_index name desc list).1
 
 near_by : (index : ℕ) (entries : Entries) (b : Bool) → nat_lt 0xFF index ≡ b → (cond {A = ℕ × Entries} b (0xFF, record entries { passed = true }) (index, entries)).0 < 2 ^ 8
 near_by index entries true e = lit< tt

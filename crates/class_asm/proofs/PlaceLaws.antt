@@ -13,7 +13,7 @@ use Rattle.asm_words.proofs.Positions.{or_behind, none_behind, pushed}
 use Rattle.class_model.specs.declared.constant.Const.{Const}
 use Rattle.class_asm.specs.declared.const_key.ConstKey.{ConstKey}
 use Rattle.class_asm.specs.declared.const_key.ConstKey.TheVariants as key
-use Rattle.class_asm.specs.Numbering.{is_same, is_utf8, is_integer, is_long, is_class, is_text, is_field, is_method, is_interface_method, is_pair}
+use Rattle.class_asm.specs.Numbering.{is_same, is_utf8, is_integer, is_long, is_class, is_text, is_field, is_method, is_interface_method, is_pair, is_method_type, is_handle, is_dynamic}
 use Rattle.class_asm.specs.Places.{entry_of, same, in_order, HasPlaces}
 
 -- ---- two entries say the same where they are the same
@@ -54,6 +54,18 @@ pair_key : (name desc : ℕ) (q : ConstKey) → same (key.Pair name desc) q ≡ 
 pair_key name desc (key.Pair first second) = refl
 pair_key name desc other = refl
 
+method_type_key : (desc : ℕ) (q : ConstKey) → same (key.MethodType desc) q ≡ is_method_type desc (entry_of q)
+method_type_key desc (key.MethodType index) = refl
+method_type_key desc other = refl
+
+handle_key : (kind member : ℕ) (q : ConstKey) → same (key.Handle kind member) q ≡ is_handle kind member (entry_of q)
+handle_key kind member (key.Handle first second) = refl
+handle_key kind member other = refl
+
+dynamic_key : (bootstrap pair : ℕ) (q : ConstKey) → same (key.Dynamic bootstrap pair) q ≡ is_dynamic bootstrap pair (entry_of q)
+dynamic_key bootstrap pair (key.Dynamic first second) = refl
+dynamic_key bootstrap pair other = refl
+
 keys_same : (s q : ConstKey) → same s q ≡ is_same (entry_of s) (entry_of q)
 keys_same (key.Utf8 units) q = utf8_key units q
 keys_same (key.Integer value) q = integer_key value q
@@ -64,6 +76,9 @@ keys_same (key.Field class pair) q = field_key class pair q
 keys_same (key.Method class pair) q = method_key class pair q
 keys_same (key.InterfaceMethod class pair) q = interface_method_key class pair q
 keys_same (key.Pair name desc) q = pair_key name desc q
+keys_same (key.MethodType desc) q = method_type_key desc q
+keys_same (key.Handle kind member) q = handle_key kind member q
+keys_same (key.Dynamic bootstrap pair) q = dynamic_key bootstrap pair q
 
 both_true : (a b : Bool) → a && b ≡ true → (a ≡ true) × (b ≡ true)
 both_true true b e = (refl, e)
@@ -110,6 +125,18 @@ pair_one : (name desc : ℕ) (q : ConstKey) → is_pair name desc (entry_of q) �
 pair_one name desc (key.Pair first second) e = two_ones key.Pair name desc first second e
 pair_one name desc other e = absurd cc
 
+method_type_one : (desc : ℕ) (q : ConstKey) → is_method_type desc (entry_of q) ≡ true → key.MethodType desc ≡ q
+method_type_one desc (key.MethodType index) e = ap key.MethodType (eqb-true desc index e)
+method_type_one desc other e = absurd cc
+
+handle_one : (kind member : ℕ) (q : ConstKey) → is_handle kind member (entry_of q) ≡ true → key.Handle kind member ≡ q
+handle_one kind member (key.Handle first second) e = two_ones key.Handle kind member first second e
+handle_one kind member other e = absurd cc
+
+dynamic_one : (bootstrap pair : ℕ) (q : ConstKey) → is_dynamic bootstrap pair (entry_of q) ≡ true → key.Dynamic bootstrap pair ≡ q
+dynamic_one bootstrap pair (key.Dynamic first second) e = two_ones key.Dynamic bootstrap pair first second e
+dynamic_one bootstrap pair other e = absurd cc
+
 one_of : (s q : ConstKey) → is_same (entry_of s) (entry_of q) ≡ true → s ≡ q
 one_of (key.Utf8 units) q e = utf8_one units q e
 one_of (key.Integer value) q e = integer_one value q e
@@ -120,6 +147,9 @@ one_of (key.Field class pair) q e = field_one class pair q e
 one_of (key.Method class pair) q e = method_one class pair q e
 one_of (key.InterfaceMethod class pair) q e = interface_method_one class pair q e
 one_of (key.Pair name desc) q e = pair_one name desc q e
+one_of (key.MethodType desc) q e = method_type_one desc q e
+one_of (key.Handle kind member) q e = handle_one kind member q e
+one_of (key.Dynamic bootstrap pair) q e = dynamic_one bootstrap pair q e
 
 -- ---- one more entry
 
@@ -161,6 +191,12 @@ ties (key.InterfaceMethod class pair) (key.InterfaceMethod first second) = pair_
 ties (key.InterfaceMethod class pair) other = refl
 ties (key.Pair name desc) (key.Pair first second) = pair_ties name desc first second
 ties (key.Pair name desc) other = refl
+ties (key.MethodType desc) (key.MethodType index) = unsigned_ties desc index
+ties (key.MethodType desc) other = refl
+ties (key.Handle kind member) (key.Handle first second) = pair_ties kind member first second
+ties (key.Handle kind member) other = refl
+ties (key.Dynamic bootstrap pair) (key.Dynamic first second) = pair_ties bootstrap pair first second
+ties (key.Dynamic bootstrap pair) other = refl
 
 placed_case : (old : BTreeMap ConstKey ℕ) (entries : List Const) (s q : ConstKey) → HasPlaces old entries → get in_order old s ≡ None → (b : Bool) → same s q ≡ b → cond b (Some (length entries)) (get in_order old q) ≡ or_behind (position (is_same (entry_of q)) entries) (cond (is_same (entry_of q) (entry_of s)) (Some (length entries)) None)
 placed_case old entries s q has absent true e =

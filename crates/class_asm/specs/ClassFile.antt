@@ -17,6 +17,8 @@ use Rattle.asm_words.specs.declared.stated.StatedFrame.{StatedFrame}
 use Rattle.asm_words.specs.declared.stated.StatedNote.{StatedNote}
 use Rattle.asm_words.specs.declared.stated.StatedMember.{StatedMember}
 use Rattle.asm_words.specs.declared.stated.StatedClass.{StatedClass}
+use Rattle.asm_words.specs.declared.stated.StatedBootstrap.{StatedBootstrap}
+use Rattle.class_asm.specs.BootstrapTable.{bootstraps_of, table_bytes}
 use Rattle.class_asm.specs.declared.numbering.Entries.{Entries}
 
 -- ---- the attributes of a code, where it has lines or frames
@@ -107,6 +109,14 @@ with_source (Some source) attrs list =
     behind (text_index source later) (λ index last.
     (attrs ++ attr_of name (body.Source index) ∷ [], last)))
 
+-- BootstrapMethods, where there are some
+abbrev pub with_bootstraps : List StatedBootstrap → List Attr → Numbered (List Attr)
+with_bootstraps bootstraps attrs list =
+    if length bootstraps == 0 then (attrs, list)
+    else behind (text_index (codes "BootstrapMethods") list) (λ name later.
+    let x = bootstraps_of bootstraps later in
+    (attrs ++ attr_of name (body.Raw (table_bytes x.0)) ∷ [], x.1))
+
 abbrev pub class_of : StatedClass → Entries → Class × Bool
 class_of stated entries =
     let this = class_index stated.name entries.pool in
@@ -115,7 +125,8 @@ class_of stated entries =
     let fields = members_of stated.fields (with_pool entries interfaces.1) in
     let methods = members_of stated.methods fields.1 in
     let source = with_source stated.source [] methods.1.pool in
-    let attrs = with_notes stated.notes source.0 source.1 in (
+    let notes = with_notes stated.notes source.0 source.1 in
+    let attrs = with_bootstraps stated.bootstraps notes.0 notes.1 in (
       record {
         minor = 0;
         major = stated.major;

@@ -1,5 +1,5 @@
 -- The class that lines state, or the number of the first line that is wrong (this project's own).
-use Rattle.std.specs.Prelude.{ℕ, ◌+◌, ◌==◌, Bool, true, false, not, is_some, ◌&&◌, ◌||◌, List, [], ◌∷◌, ◌++◌, length, take, codes, Option, Some, None, ok_or, option_and_then, Result, Ok, Err, if◌then◌else◌}
+use Rattle.std.specs.Prelude.{ℕ, ◌+◌, ◌==◌, nat_le, Bool, true, false, not, is_some, ◌&&◌, ◌||◌, List, [], ◌∷◌, ◌++◌, length, take, codes, Option, Some, None, ok_or, option_and_then, Result, Ok, Err, if◌then◌else◌}
 use Rattle.std.specs.Option.{option_map}
 use Rattle.codec_rules.specs.Sequence.{◌>>=◌}
 use Rattle.class_model.specs.DeclaredName.{is_class_name}
@@ -17,6 +17,8 @@ use Rattle.asm_words.specs.declared.keyword.LineKind.TheVariants as kind
 use Rattle.class_asm.specs.declared.fault.AsmFault.{AsmFault}
 use Rattle.class_asm.specs.declared.fault.AsmFault.TheVariants as asm_fault
 use Rattle.asm_words.specs.declared.stated.StatedClass.{StatedClass}
+use Rattle.asm_words.specs.declared.stated.StatedBootstrap.{StatedBootstrap}
+use Rattle.asm_words.specs.declared.stated.StatedBootstrap.TheVariants as bootstrap
 use Rattle.asm_words.specs.declared.stated.StatedMember.{StatedMember}
 use Rattle.class_asm.specs.declared.class.ClassHead.{ClassHead}
 use Rattle.class_asm.specs.declared.class.End.{End}
@@ -31,6 +33,7 @@ empty_class name parent flags major =
       interfaces = [];
       source = None;
       notes = [];
+      bootstraps = [];
       fields = [];
       methods = [];
     }
@@ -65,9 +68,14 @@ class_in other = None
 
 -- ---- the lines before the members
 
--- A source or a note was stated.
+-- A bootstrap method was stated.
+abbrev pub is_past_notes : StatedClass → Bool
+is_past_notes class = not (length class.bootstraps == 0)
+
+-- A source, a note or a bootstrap method was stated.
 abbrev pub is_past_interfaces : StatedClass → Bool
-is_past_interfaces class = is_some class.source || not (length class.notes == 0)
+is_past_interfaces class =
+    is_some class.source || (not (length class.notes == 0) || is_past_notes class)
 
 abbrev pub implemented : StatedClass → List (List ℕ) → Option StatedClass
 implemented class words =
@@ -84,16 +92,42 @@ sourced class words =
 
 abbrev pub class_noted : StatedClass → List (List ℕ) → Option StatedClass
 class_noted class words =
-    option_map (λ note. record class { notes = class.notes ++ note ∷ [] }) (class_note_in words)
+    if is_past_notes class then None
+    else option_map (λ note. record class { notes = class.notes ++ note ∷ [] })
+    (class_note_in words)
 
-abbrev pub head_by : StatedClass → List (List ℕ) → LineKind → Option StatedClass
-head_by class words kind.Implements = implemented class words
-head_by class words kind.Source = sourced class words
-head_by class words kind.Note = class_noted class words
-head_by class words other = None
+abbrev pub with_bootstrap : StatedClass → StatedBootstrap → StatedClass
+with_bootstrap class bootstrap =
+    record class { bootstraps = class.bootstraps ++ bootstrap ∷ [] }
+
+-- A class has 65,535 lines of bootstrap methods at most.
+abbrev pub has_many_bootstraps : StatedClass → Bool
+has_many_bootstraps class = nat_le 0xFFFF (length class.bootstraps)
+
+abbrev pub bootstrapped : StatedClass → List (List ℕ) → Option StatedClass
+bootstrapped class [] = None
+bootstrapped class (keyword ∷ words) =
+    if has_many_bootstraps class then None
+    else option_map (λ e. with_bootstrap class (bootstrap.Method e)) (named.handle words)
+
+-- An argument is one of the method before it.
+abbrev pub argued : StatedClass → List (List ℕ) → List ℕ → Option StatedClass
+argued class [] text = None
+argued class (keyword ∷ words) text =
+    if not (is_past_notes class) || has_many_bootstraps class then None
+    else option_map (λ e. with_bootstrap class (bootstrap.Argument e)) (named.argument words text)
+
+-- A line's text is needed for a text in quotes.
+abbrev pub head_by : StatedClass → List (List ℕ) → List ℕ → LineKind → Option StatedClass
+head_by class words text kind.Implements = implemented class words
+head_by class words text kind.Source = sourced class words
+head_by class words text kind.Note = class_noted class words
+head_by class words text kind.Bootstrap = bootstrapped class words
+head_by class words text kind.Argument = argued class words text
+head_by class words text other = None
 
 abbrev pub head_step : StatedClass → Line → Option StatedClass
-head_step class line = head_by class line.words (line_kind line)
+head_step class line = head_by class line.words line.text (line_kind line)
 
 abbrev pub head_from : StatedClass → List Line → Result StatedClass AsmFault
 head_from class [] = Ok class

@@ -1,5 +1,6 @@
 pub mod Assembled
 pub mod ClassFile
+pub mod BootstrapTable
 pub mod File
 pub mod Numbering
 pub mod Places

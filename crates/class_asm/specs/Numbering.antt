@@ -47,6 +47,18 @@ abbrev pub is_interface_method : ℕ → ℕ → Const → Bool
 is_interface_method class pair (const.IMethod first second) = class == first && pair == second
 is_interface_method class pair other = false
 
+abbrev pub is_method_type : ℕ → Const → Bool
+is_method_type desc (const.MethodKind index) = desc == index
+is_method_type desc other = false
+
+abbrev pub is_handle : ℕ → ℕ → Const → Bool
+is_handle kind member (const.Handle first second) = kind == first && member == second
+is_handle kind member other = false
+
+abbrev pub is_dynamic : ℕ → ℕ → Const → Bool
+is_dynamic bootstrap pair (const.Dynamic first second) = bootstrap == first && pair == second
+is_dynamic bootstrap pair other = false
+
 abbrev pub is_pair : ℕ → ℕ → Const → Bool
 is_pair name desc (const.Pair first second) = name == first && desc == second
 is_pair name desc other = false
@@ -62,6 +74,9 @@ is_same (const.Field class pair) other = is_field class pair other
 is_same (const.Method class pair) other = is_method class pair other
 is_same (const.IMethod class pair) other = is_interface_method class pair other
 is_same (const.Pair name desc) other = is_pair name desc other
+is_same (const.MethodKind desc) other = is_method_type desc other
+is_same (const.Handle kind member) other = is_handle kind member other
+is_same (const.Dynamic bootstrap pair) other = is_dynamic bootstrap pair other
 is_same one other = false
 
 -- ---- indices
@@ -114,6 +129,17 @@ abbrev pub member_index : (ℕ → ℕ → Const) → MemberName → Numbered �
 member_index make member list =
     let parts = parts_index member list in interned (make parts.0.0 parts.0.1) parts.1
 
+abbrev pub type_index : List ℕ → Numbered ℕ
+type_index desc list = behind (text_index desc list) (λ index. interned (const.MethodKind index))
+
+abbrev pub handle_index : (ℕ → ℕ → Const) → ℕ → MemberName → Numbered ℕ
+handle_index make kind member list =
+    behind (member_index make member list) (λ index. interned (const.Handle kind index))
+
+abbrev pub dynamic_index : ℕ → List ℕ → List ℕ → Numbered ℕ
+dynamic_index bootstrap name desc list =
+    behind (pair_index name desc list) (λ pair. interned (const.Dynamic bootstrap pair))
+
 -- the index of an entry by what it says
 abbrev pub entry_index : StatedConstant → Numbered ℕ
 entry_index (entry.Integer value) list = interned (const.Integer value) list
@@ -123,3 +149,7 @@ entry_index (entry.Text text) list = string_index text list
 entry_index (entry.Field member) list = member_index const.Field member list
 entry_index (entry.Method member) list = member_index const.Method member list
 entry_index (entry.InterfaceMethod member) list = member_index const.IMethod member list
+entry_index (entry.MethodType desc) list = type_index desc list
+entry_index (entry.MethodHandle kind member) list = handle_index const.Method kind member list
+entry_index (entry.InterfaceHandle kind member) list = handle_index const.IMethod kind member list
+entry_index (entry.Dynamic bootstrap name desc) list = dynamic_index bootstrap name desc list

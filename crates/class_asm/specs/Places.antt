@@ -22,6 +22,9 @@ entry_of (key.Field class pair) = const.Field class pair
 entry_of (key.Method class pair) = const.Method class pair
 entry_of (key.InterfaceMethod class pair) = const.IMethod class pair
 entry_of (key.Pair name desc) = const.Pair name desc
+entry_of (key.MethodType desc) = const.MethodKind desc
+entry_of (key.Handle kind member) = const.Handle kind member
+entry_of (key.Dynamic bootstrap pair) = const.Dynamic bootstrap pair
 
 -- It says the same.
 abbrev pub same : ConstKey → ConstKey → Bool

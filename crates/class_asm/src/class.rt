@@ -5,13 +5,16 @@ ghost use Rattle.codec_rules.specs.Meets.{Gives};
 ghost use Rattle.class_reader.specs.Reading.{is_major};
 ghost use Rattle.std.specs.Option.{option_map};
 ghost use Rattle.class_asm.specs.Adding.{given_if};
-ghost use Rattle.class_asm.specs.Classes.{class_of, are_keywords, headed, class_by, class_in, own_count, first_number, implemented, sourced, class_noted, head_step, head_from, ended, part_step, parts_from, stated_by};
+ghost use Rattle.class_asm.specs.Classes.{class_of, are_keywords, headed, class_by, class_in, own_count, first_number, is_past_notes, is_past_interfaces, has_many_bootstraps, implemented, sourced, class_noted, bootstrapped, argued, head_step, head_from, ended, part_step, parts_from, stated_by};
 ghost use Rattle.class_asm.specs.declared.fault.AsmFault.TheVariants as asm_fault;
 
 use crate::fault::AsmFault;
 use crate::member::{field_of, method_of};
 use crate::note::class_note_in;
-use asm_words::{Line, LineKind, StatedClass, begins_part, is_class_entry, line_kind, says, u2};
+use asm_words::{
+    Line, LineKind, StatedBootstrap, StatedClass, argument, begins_part, handle, is_class_entry,
+    line_kind, says, u2,
+};
 use class_model::{Memory, Name, Seq, is_class_name};
 use std::alloc::Global;
 
@@ -106,6 +109,7 @@ fn class_of(alloc: Global, head: ClassHead) -> StatedClass
         interfaces: Seq::new(alloc),
         source: None,
         notes: Seq::new(alloc),
+        bootstraps: Seq::new(alloc),
         fields: Seq::new(alloc),
         methods: Seq::new(alloc),
     }
@@ -113,12 +117,24 @@ fn class_of(alloc: Global, head: ClassHead) -> StatedClass
 
 // ---- the lines before the members
 
-/// Adds the interface that a line names, before the source and the notes. Each of these calls
+fn is_past_notes(class: &StatedClass) -> bool
+    ensures { result ≡ is_past_notes class.now }
+{
+    !class.bootstraps.is_empty()
+}
+
+fn is_past_interfaces(class: &StatedClass) -> bool
+    ensures { result ≡ is_past_interfaces class.now }
+{
+    class.source.is_some() || !class.notes.is_empty() || is_past_notes(class)
+}
+
+/// Adds the interface that a line names, before what stands behind interfaces. Each of these calls
 /// answers whether the line is right.
 fn add_interface(alloc: Global, class: &mut StatedClass, words: &[Name]) -> Result<bool, Memory>
     ensures { IfOk result (λ ok. given_if ok class.new ≡ implemented class.old words.now) }
 {
-    if class.source.is_some() || !class.notes.is_empty() {
+    if is_past_interfaces(class) {
         return Ok(false);
     }
     let [_, word] = words else {
@@ -135,7 +151,7 @@ fn add_interface(alloc: Global, class: &mut StatedClass, words: &[Name]) -> Resu
 fn add_source(class: &mut StatedClass, words: &[Name]) -> Result<bool, Memory>
     ensures { IfOk result (λ ok. given_if ok class.new ≡ sourced class.old words.now) }
 {
-    if class.source.is_some() || !class.notes.is_empty() {
+    if is_past_interfaces(class) {
         return Ok(false);
     }
     let [_, word] = words else {
@@ -148,10 +164,58 @@ fn add_source(class: &mut StatedClass, words: &[Name]) -> Result<bool, Memory>
 fn add_note(alloc: Global, class: &mut StatedClass, words: &[Name]) -> Result<bool, Memory>
     ensures { IfOk result (λ ok. given_if ok class.new ≡ class_noted class.old words.now) }
 {
+    if is_past_notes(class) {
+        return Ok(false);
+    }
     let Some(note) = class_note_in(alloc, words)? else {
         return Ok(false);
     };
     class.notes.push(note)?;
+    Ok(true)
+}
+
+/// A class has 65,535 lines of bootstrap methods at most.
+fn has_many_bootstraps(class: &StatedClass) -> bool
+    ensures { result ≡ has_many_bootstraps class.now }
+{
+    0xFFFF <= class.bootstraps.len()
+}
+
+fn add_bootstrap(alloc: Global, class: &mut StatedClass, words: &[Name]) -> Result<bool, Memory>
+    ensures { IfOk result (λ ok. given_if ok class.new ≡ bootstrapped class.old words.now) }
+{
+    let [_, words @ ..] = words else {
+        return Ok(false);
+    };
+    if has_many_bootstraps(class) {
+        return Ok(false);
+    }
+    let Some(method) = handle(alloc, words)? else {
+        return Ok(false);
+    };
+    class.bootstraps.push(StatedBootstrap::Method(method))?;
+    Ok(true)
+}
+
+/// Adds an argument of the bootstrap method before it.
+fn add_argument(
+    alloc: Global,
+    class: &mut StatedClass,
+    words: &[Name],
+    text: &[u16],
+) -> Result<bool, Memory>
+    ensures { IfOk result (λ ok. given_if ok class.new ≡ argued class.old words.now text.now) }
+{
+    let [_, words @ ..] = words else {
+        return Ok(false);
+    };
+    if !is_past_notes(class) || has_many_bootstraps(class) {
+        return Ok(false);
+    }
+    let Some(argument) = argument(alloc, words, text)? else {
+        return Ok(false);
+    };
+    class.bootstraps.push(StatedBootstrap::Argument(argument))?;
     Ok(true)
 }
 
@@ -163,6 +227,10 @@ fn head_step(alloc: Global, class: &mut StatedClass, line: &Line) -> Result<bool
         LineKind::Implements => add_interface(alloc, class, line.words.as_slice()),
         LineKind::Source => add_source(class, line.words.as_slice()),
         LineKind::Note => add_note(alloc, class, line.words.as_slice()),
+        LineKind::Bootstrap => add_bootstrap(alloc, class, line.words.as_slice()),
+        LineKind::Argument => {
+            add_argument(alloc, class, line.words.as_slice(), line.text.as_slice())
+        }
         _ => Ok(false),
     }
 }

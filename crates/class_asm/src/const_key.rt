@@ -17,6 +17,9 @@ pub enum ConstKey {
     Method(u16, u16),
     InterfaceMethod(u16, u16),
     Pair(u16, u16),
+    MethodType(u16),
+    Handle(u8, u16),
+    Dynamic(u16, u16),
 }
 
 impl ConstKey {
@@ -34,6 +37,9 @@ impl ConstKey {
             ConstKey::Method(class, pair) => Const::Method(*class, *pair),
             ConstKey::InterfaceMethod(class, pair) => Const::IMethod(*class, *pair),
             ConstKey::Pair(name, desc) => Const::Pair(*name, *desc),
+            ConstKey::MethodType(desc) => Const::MethodKind(*desc),
+            ConstKey::Handle(kind, member) => Const::Handle(*kind, *member),
+            ConstKey::Dynamic(bootstrap, pair) => Const::Dynamic(*bootstrap, *pair),
         })
     }
 }

@@ -1,12 +1,13 @@
 //! The members and the class, with their attributes.
 
 ghost use Rattle.std.specs.Prelude.{◌≡◌, All, IfOk};
-ghost use Rattle.class_asm.specs.ClassFile.{with_lines, with_frames, code_attr, with_notes, attrs_of, member_of, members_of, interfaces_of, with_source, class_of};
+ghost use Rattle.class_asm.specs.ClassFile.{with_lines, with_frames, code_attr, with_notes, attrs_of, member_of, members_of, interfaces_of, with_source, with_bootstraps, class_of};
 ghost use Rattle.asm_words.specs.Stated.{IsStatedCode, IsStatedMember, IsStatedClass};
 
+use crate::bootstrap_table::{bootstraps_of, table_bytes};
 use crate::numbering::{Entries, frames_of, insns_of, notes_of, rows_of, starts_of};
 use crate::pool::{Pool, class_index, text_index, word_index};
-use asm_words::{StatedClass, StatedCode, StatedFrame, StatedMember, StatedNote};
+use asm_words::{StatedBootstrap, StatedClass, StatedCode, StatedFrame, StatedMember, StatedNote};
 use class_model::{Attr, Body, Class, Code, Member, Memory, Name, Seq};
 
 // ---- the attributes of a code, where it has lines or frames
@@ -153,6 +154,27 @@ fn push_source(pool: &mut Pool, attrs: &mut Seq<Attr>, source: &Option<Name>) ->
     Ok(())
 }
 
+/// The attribute BootstrapMethods, where there are some.
+fn push_bootstraps(
+    pool: &mut Pool,
+    attrs: &mut Seq<Attr>,
+    bootstraps: &[StatedBootstrap],
+) -> Result<(), Memory>
+    ensures { IfOk result (λ _.
+        with_bootstraps bootstraps.now attrs.old pool.old ≡ (attrs.new, pool.new)) }
+{
+    if !bootstraps.is_empty() {
+        let name = word_index(pool, "BootstrapMethods")?;
+        let lines = bootstraps_of(pool, bootstraps)?;
+        let bytes = table_bytes(pool.allocator(), lines.as_slice())?;
+        attrs.push(Attr {
+            name,
+            body: Body::Raw(bytes),
+        })?;
+    }
+    Ok(())
+}
+
 /// The class, whose pool is that of the entries.
 pub fn class_of(mut entries: Entries, stated: &StatedClass) -> Result<(Class, bool), Memory>
     requires { IsStatedClass stated.now }
@@ -166,6 +188,7 @@ pub fn class_of(mut entries: Entries, stated: &StatedClass) -> Result<(Class, bo
     let mut attrs = Seq::new(entries.pool.allocator());
     push_source(&mut entries.pool, &mut attrs, &stated.source)?;
     push_notes(&mut entries.pool, &mut attrs, stated.notes.as_slice())?;
+    push_bootstraps(&mut entries.pool, &mut attrs, stated.bootstraps.as_slice())?;
     let Entries { pool, passed } = entries;
     Ok((
         Class {

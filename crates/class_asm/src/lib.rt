@@ -2,6 +2,7 @@
 #![tactic(auto)]
 
 mod assembler;
+mod bootstrap_table;
 mod class;
 mod code;
 mod const_key;

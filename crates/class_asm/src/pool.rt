@@ -1,7 +1,8 @@
 //! The constant pool of a class, to which entries are added as they are needed.
 
 ghost use Rattle.std.specs.Prelude.{◌≡◌, ◌++◌, [], IfOk, OnOk, OnErr};
-ghost use Rattle.class_asm.specs.Numbering.{index_of, interned, text_index, class_index, string_index, pair_index, wide_interned, parts_index, entry_index};
+ghost use Rattle.class_asm.specs.Numbering.{index_of, interned, text_index, class_index, string_index, pair_index, wide_interned, parts_index, member_index, type_index, dynamic_index, entry_index};
+ghost use Rattle.class_model.specs.declared.constant.Const.TheVariants as const;
 ghost use Rattle.class_asm.specs.Places.{entry_of};
 
 use crate::const_key::ConstKey;
@@ -153,6 +154,41 @@ fn parts_index(pool: &mut Pool, member: &MemberName) -> Result<(u16, u16), Memor
     Ok((class, pair))
 }
 
+/// A method of a class.
+fn method_index(pool: &mut Pool, member: &MemberName) -> Result<u16, Memory>
+    ensures { IfOk result (λ index.
+        member_index const.Method member.now pool.old ≡ (index, pool.new)) }
+{
+    let (class, pair) = parts_index(pool, member)?;
+    pool.intern(ConstKey::Method(class, pair))
+}
+
+/// A method of an interface.
+fn interface_method_index(pool: &mut Pool, member: &MemberName) -> Result<u16, Memory>
+    ensures { IfOk result (λ index.
+        member_index const.IMethod member.now pool.old ≡ (index, pool.new)) }
+{
+    let (class, pair) = parts_index(pool, member)?;
+    pool.intern(ConstKey::InterfaceMethod(class, pair))
+}
+
+/// The type of a method.
+fn type_index(pool: &mut Pool, desc: &Name) -> Result<u16, Memory>
+    ensures { IfOk result (λ index. type_index desc.now pool.old ≡ (index, pool.new)) }
+{
+    let desc = text_index(pool, desc)?;
+    pool.intern(ConstKey::MethodType(desc))
+}
+
+/// A call site.
+fn dynamic_index(pool: &mut Pool, bootstrap: u16, name: &Name, desc: &Name) -> Result<u16, Memory>
+    ensures { IfOk result (λ index.
+        dynamic_index bootstrap name.now desc.now pool.old ≡ (index, pool.new)) }
+{
+    let pair = pair_index(pool, name, desc)?;
+    pool.intern(ConstKey::Dynamic(bootstrap, pair))
+}
+
 /// The index of an entry by what it says, behind those that it names.
 pub fn entry_index(pool: &mut Pool, entry: &StatedConstant) -> Result<u16, Memory>
     ensures { IfOk result (λ index. entry_index entry.now pool.old ≡ (index, pool.new)) }
@@ -166,13 +202,19 @@ pub fn entry_index(pool: &mut Pool, entry: &StatedConstant) -> Result<u16, Memor
             let (class, pair) = parts_index(pool, member)?;
             pool.intern(ConstKey::Field(class, pair))
         }
-        StatedConstant::Method(member) => {
-            let (class, pair) = parts_index(pool, member)?;
-            pool.intern(ConstKey::Method(class, pair))
+        StatedConstant::Method(member) => method_index(pool, member),
+        StatedConstant::InterfaceMethod(member) => interface_method_index(pool, member),
+        StatedConstant::MethodType(desc) => type_index(pool, desc),
+        StatedConstant::MethodHandle(kind, member) => {
+            let method = method_index(pool, member)?;
+            pool.intern(ConstKey::Handle(*kind, method))
         }
-        StatedConstant::InterfaceMethod(member) => {
-            let (class, pair) = parts_index(pool, member)?;
-            pool.intern(ConstKey::InterfaceMethod(class, pair))
+        StatedConstant::InterfaceHandle(kind, member) => {
+            let method = interface_method_index(pool, member)?;
+            pool.intern(ConstKey::Handle(*kind, method))
+        }
+        StatedConstant::Dynamic(bootstrap, name, desc) => {
+            dynamic_index(pool, *bootstrap, name, desc)
         }
     }
 }

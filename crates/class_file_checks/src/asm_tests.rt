@@ -32,10 +32,26 @@ const L: [u8; 119] = [
     0xad, 0x00, 0x00, 0x00, 0x00, 0x00, 0x00,
 ];
 
+// `static int g()` of the class S, which has a call site of its name b, and a bootstrap method with
+// three arguments: a descriptor, a number, and its own handle.
+const S: [u8; 176] = [
+    0xca, 0xfe, 0xba, 0xbe, 0x00, 0x00, 0x00, 0x34, 0x00, 0x11, 0x01, 0x00, 0x01, 0x53, 0x07, 0x00,
+    0x01, 0x01, 0x00, 0x10, 0x6a, 0x61, 0x76, 0x61, 0x2f, 0x6c, 0x61, 0x6e, 0x67, 0x2f, 0x4f, 0x62,
+    0x6a, 0x65, 0x63, 0x74, 0x07, 0x00, 0x03, 0x01, 0x00, 0x01, 0x67, 0x01, 0x00, 0x03, 0x28, 0x29,
+    0x49, 0x01, 0x00, 0x04, 0x43, 0x6f, 0x64, 0x65, 0x01, 0x00, 0x01, 0x62, 0x0c, 0x00, 0x08, 0x00,
+    0x06, 0x12, 0x00, 0x00, 0x00, 0x09, 0x01, 0x00, 0x10, 0x42, 0x6f, 0x6f, 0x74, 0x73, 0x74, 0x72,
+    0x61, 0x70, 0x4d, 0x65, 0x74, 0x68, 0x6f, 0x64, 0x73, 0x0a, 0x00, 0x02, 0x00, 0x09, 0x0f, 0x06,
+    0x00, 0x0c, 0x01, 0x00, 0x03, 0x28, 0x29, 0x56, 0x10, 0x00, 0x0e, 0x03, 0x00, 0x00, 0x00, 0x05,
+    0x00, 0x21, 0x00, 0x02, 0x00, 0x04, 0x00, 0x00, 0x00, 0x00, 0x00, 0x01, 0x00, 0x09, 0x00, 0x05,
+    0x00, 0x06, 0x00, 0x01, 0x00, 0x07, 0x00, 0x00, 0x00, 0x12, 0x00, 0x01, 0x00, 0x00, 0x00, 0x00,
+    0x00, 0x06, 0xba, 0x00, 0x0a, 0x00, 0x00, 0xac, 0x00, 0x00, 0x00, 0x00, 0x00, 0x01, 0x00, 0x0b,
+    0x00, 0x00, 0x00, 0x0c, 0x00, 0x01, 0x00, 0x0d, 0x00, 0x03, 0x00, 0x0f, 0x00, 0x10, 0x00, 0x0d,
+];
+
 // Texts and their class files.
 type RightRow = (&'static str, &'static [u8]);
 
-const RIGHT: [RightRow; 2] = [
+const RIGHT: [RightRow; 3] = [
     (
         "class A super java/lang/Object flags 33 major 52
 method 9 f (I)Z stack 1 locals 1
@@ -65,12 +81,25 @@ end
 ",
         &L,
     ),
+    (
+        "class S super java/lang/Object flags 33 major 52
+bootstrap 6 S.b ()I
+argument type ()V
+argument 5
+argument handle 6 S.b ()I
+method 9 g ()I stack 1 locals 0
+invokedynamic 0 b ()I
+ireturn
+end
+",
+        &S,
+    ),
 ];
 
 // Texts that state no class, and the first line at fault.
 type WrongRow = (&'static str, u64);
 
-const WRONG: [WrongRow; 8] = [
+const WRONG: [WrongRow; 12] = [
     ("", 1),
     // no end
     ("class A super B flags 1 major 52\n", 2),
@@ -92,12 +121,24 @@ const WRONG: [WrongRow; 8] = [
         "class A super B flags 1 major 52\nmethod 1 a ()V stack 1 locals 1\nend\n",
         2,
     ),
+    // a class by the beginning of the names of call sites
+    ("class A super mt/Site;1 flags 1 major 52\nend\n", 1),
+    // an argument of no bootstrap method, one on a field, and one behind a method
+    ("class A super B flags 1 major 52\nargument 5\nend\n", 2),
+    (
+        "class A super B flags 1 major 52\nbootstrap 4 A.b ()V\nend\n",
+        2,
+    ),
+    (
+        "class A super B flags 1 major 52\nmethod 1 a ()V\nbootstrap 6 A.b ()V\nend\n",
+        3,
+    ),
 ];
 
 const HEAD: &str = "class A super B flags 1 major 52\nmethod 1 a ()V stack 1 locals 1\n";
 
 // The same of what stands behind `HEAD`.
-const WRONG_CODES: [WrongRow; 12] = [
+const WRONG_CODES: [WrongRow; 13] = [
     ("lien 3\nreturn\nend\n", 3),
     // a label that the method doesn't have
     ("goto L\nreturn\nend\n", 3),
@@ -121,6 +162,8 @@ const WRONG_CODES: [WrongRow; 12] = [
     ("anewarray [F\nreturn\nend\n", 3),
     // a number past its range
     ("bipush 128\nreturn\nend\n", 3),
+    // a call site without its descriptor
+    ("invokedynamic 0 a\nreturn\nend\n", 3),
 ];
 
 // The line that is told of a text; none where it is assembled.
@@ -150,7 +193,7 @@ fn other_of_right(alloc: Global) -> Result<usize, Fail> {
 
 #[test]
 fn classes_are_assembled(rt: HostRuntime) -> Result<(), Fail> {
-    assert_eq!(rt; other_of_right(rt.alloc())?, 2);
+    assert_eq!(rt; other_of_right(rt.alloc())?, 3);
     Ok(())
 }
 
@@ -178,7 +221,7 @@ fn other_of_wrong_codes(alloc: Global) -> Result<usize, Fail> {
 
 #[test]
 fn first_wrong_lines_are_told(rt: HostRuntime) -> Result<(), Fail> {
-    assert_eq!(rt; other_of_wrong(rt.alloc())?, 8);
-    assert_eq!(rt; other_of_wrong_codes(rt.alloc())?, 12);
+    assert_eq!(rt; other_of_wrong(rt.alloc())?, 12);
+    assert_eq!(rt; other_of_wrong_codes(rt.alloc())?, 13);
     Ok(())
 }

@@ -155,12 +155,12 @@ fn bootstrap_in(
 }
 
 /// The bootstrap method of the first entry, and what is behind the entry.
-fn boot_before(
+fn boot_before<'a>(
     alloc: Global,
     entries: &[Entry],
     texts: &Texts,
-    bytes: &[u8],
-) -> Result<Option<(Option<Bootstrap>, &[u8])>, Memory>
+    bytes: &'a [u8],
+) -> Result<Option<(Option<Bootstrap>, &'a [u8])>, Memory>
     requires { AreEntries entries.now texts.now }
     ensures { IfOk result (λ o. MatchOption o (boot_before texts.now bytes.now ≡ None)
         (λ x. boot_before texts.now bytes.now ≡ Some (option_map bootstrap_of x.0, x.1.now))) }

@@ -30,7 +30,7 @@ pub enum ClassFault {
     Padding { at: u64 },
     /// A float is used.
     FloatUsed { at: u64 },
-    /// A dynamic call or constant is used.
+    /// A dynamic constant is loaded.
     DynamicUsed { at: u64 },
     /// A place that is named is not the start of an instruction, or a row covers none.
     BadTarget { at: u64 },

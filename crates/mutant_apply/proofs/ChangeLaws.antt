@@ -246,14 +246,14 @@ units_by (u ∷ units) e = let k = and_parts (nat_lt u (2 ^ 16)) (list_all (λ u
 
 call_right : (called : Callee) → IsCall (callee_class called) (callee_name called) (callee_desc called)
 unfolding utf16_chars
-call_right callee.NoOptional = record { class_units = units_by (callee_class callee.NoOptional) refl; class_name = λ h. absurd cc; name_units = units_by (callee_name callee.NoOptional) refl; desc_units = units_by (callee_desc callee.NoOptional) refl; desc_type = record { tree = record { parameters = []; returned = Some (object (codes "java/util/Optional")) }; spelled = record { parameters = tt; returned = refl; text = refl }; floatless = refl } }
-call_right callee.NoList = record { class_units = units_by (callee_class callee.NoList) refl; class_name = λ h. absurd cc; name_units = units_by (callee_name callee.NoList) refl; desc_units = units_by (callee_desc callee.NoList) refl; desc_type = record { tree = record { parameters = []; returned = Some (object (codes "java/util/List")) }; spelled = record { parameters = tt; returned = refl; text = refl }; floatless = refl } }
-call_right callee.NoSet = record { class_units = units_by (callee_class callee.NoSet) refl; class_name = λ h. absurd cc; name_units = units_by (callee_name callee.NoSet) refl; desc_units = units_by (callee_desc callee.NoSet) refl; desc_type = record { tree = record { parameters = []; returned = Some (object (codes "java/util/Set")) }; spelled = record { parameters = tt; returned = refl; text = refl }; floatless = refl } }
-call_right callee.BoxedInteger = record { class_units = units_by (callee_class callee.BoxedInteger) refl; class_name = λ h. absurd cc; name_units = units_by (callee_name callee.BoxedInteger) refl; desc_units = units_by (callee_desc callee.BoxedInteger) refl; desc_type = record { tree = record { parameters = base int ∷ []; returned = Some (object (codes "java/lang/Integer")) }; spelled = record { parameters = (tt, tt); returned = refl; text = refl }; floatless = refl } }
-call_right callee.BoxedShort = record { class_units = units_by (callee_class callee.BoxedShort) refl; class_name = λ h. absurd cc; name_units = units_by (callee_name callee.BoxedShort) refl; desc_units = units_by (callee_desc callee.BoxedShort) refl; desc_type = record { tree = record { parameters = base short ∷ []; returned = Some (object (codes "java/lang/Short")) }; spelled = record { parameters = (tt, tt); returned = refl; text = refl }; floatless = refl } }
-call_right callee.BoxedCharacter = record { class_units = units_by (callee_class callee.BoxedCharacter) refl; class_name = λ h. absurd cc; name_units = units_by (callee_name callee.BoxedCharacter) refl; desc_units = units_by (callee_desc callee.BoxedCharacter) refl; desc_type = record { tree = record { parameters = base char ∷ []; returned = Some (object (codes "java/lang/Character")) }; spelled = record { parameters = (tt, tt); returned = refl; text = refl }; floatless = refl } }
-call_right callee.BoxedLong = record { class_units = units_by (callee_class callee.BoxedLong) refl; class_name = λ h. absurd cc; name_units = units_by (callee_name callee.BoxedLong) refl; desc_units = units_by (callee_desc callee.BoxedLong) refl; desc_type = record { tree = record { parameters = base long ∷ []; returned = Some (object (codes "java/lang/Long")) }; spelled = record { parameters = (tt, tt); returned = refl; text = refl }; floatless = refl } }
-call_right callee.BoxedBoolean = record { class_units = units_by (callee_class callee.BoxedBoolean) refl; class_name = λ h. absurd cc; name_units = units_by (callee_name callee.BoxedBoolean) refl; desc_units = units_by (callee_desc callee.BoxedBoolean) refl; desc_type = record { tree = record { parameters = base boolean ∷ []; returned = Some (object (codes "java/lang/Boolean")) }; spelled = record { parameters = (tt, tt); returned = refl; text = refl }; floatless = refl } }
+call_right callee.NoOptional = record { class_units = units_by (callee_class callee.NoOptional) refl; class_name = record { array = λ h. absurd cc; plain = refl }; name_units = units_by (callee_name callee.NoOptional) refl; desc_units = units_by (callee_desc callee.NoOptional) refl; desc_type = record { tree = record { parameters = []; returned = Some (object (codes "java/util/Optional")) }; spelled = record { parameters = tt; returned = refl; text = refl }; floatless = refl } }
+call_right callee.NoList = record { class_units = units_by (callee_class callee.NoList) refl; class_name = record { array = λ h. absurd cc; plain = refl }; name_units = units_by (callee_name callee.NoList) refl; desc_units = units_by (callee_desc callee.NoList) refl; desc_type = record { tree = record { parameters = []; returned = Some (object (codes "java/util/List")) }; spelled = record { parameters = tt; returned = refl; text = refl }; floatless = refl } }
+call_right callee.NoSet = record { class_units = units_by (callee_class callee.NoSet) refl; class_name = record { array = λ h. absurd cc; plain = refl }; name_units = units_by (callee_name callee.NoSet) refl; desc_units = units_by (callee_desc callee.NoSet) refl; desc_type = record { tree = record { parameters = []; returned = Some (object (codes "java/util/Set")) }; spelled = record { parameters = tt; returned = refl; text = refl }; floatless = refl } }
+call_right callee.BoxedInteger = record { class_units = units_by (callee_class callee.BoxedInteger) refl; class_name = record { array = λ h. absurd cc; plain = refl }; name_units = units_by (callee_name callee.BoxedInteger) refl; desc_units = units_by (callee_desc callee.BoxedInteger) refl; desc_type = record { tree = record { parameters = base int ∷ []; returned = Some (object (codes "java/lang/Integer")) }; spelled = record { parameters = (tt, tt); returned = refl; text = refl }; floatless = refl } }
+call_right callee.BoxedShort = record { class_units = units_by (callee_class callee.BoxedShort) refl; class_name = record { array = λ h. absurd cc; plain = refl }; name_units = units_by (callee_name callee.BoxedShort) refl; desc_units = units_by (callee_desc callee.BoxedShort) refl; desc_type = record { tree = record { parameters = base short ∷ []; returned = Some (object (codes "java/lang/Short")) }; spelled = record { parameters = (tt, tt); returned = refl; text = refl }; floatless = refl } }
+call_right callee.BoxedCharacter = record { class_units = units_by (callee_class callee.BoxedCharacter) refl; class_name = record { array = λ h. absurd cc; plain = refl }; name_units = units_by (callee_name callee.BoxedCharacter) refl; desc_units = units_by (callee_desc callee.BoxedCharacter) refl; desc_type = record { tree = record { parameters = base char ∷ []; returned = Some (object (codes "java/lang/Character")) }; spelled = record { parameters = (tt, tt); returned = refl; text = refl }; floatless = refl } }
+call_right callee.BoxedLong = record { class_units = units_by (callee_class callee.BoxedLong) refl; class_name = record { array = λ h. absurd cc; plain = refl }; name_units = units_by (callee_name callee.BoxedLong) refl; desc_units = units_by (callee_desc callee.BoxedLong) refl; desc_type = record { tree = record { parameters = base long ∷ []; returned = Some (object (codes "java/lang/Long")) }; spelled = record { parameters = (tt, tt); returned = refl; text = refl }; floatless = refl } }
+call_right callee.BoxedBoolean = record { class_units = units_by (callee_class callee.BoxedBoolean) refl; class_name = record { array = λ h. absurd cc; plain = refl }; name_units = units_by (callee_name callee.BoxedBoolean) refl; desc_units = units_by (callee_desc callee.BoxedBoolean) refl; desc_type = record { tree = record { parameters = base boolean ∷ []; returned = Some (object (codes "java/lang/Boolean")) }; spelled = record { parameters = (tt, tt); returned = refl; text = refl }; floatless = refl } }
 
 module _ (pool : List Const) (insn : Insn) where
   alike_stands : (op : ℕ) → HasForm insn → is_exchange op insn.op ≡ true → StandsFor pool insn (record { op = op; wide = insn.wide; arg = insn.arg })

@@ -28,7 +28,7 @@ use Rattle.class_model.specs.declared.frame.VItem.TheVariants as vitem
 use Rattle.class_model.specs.declared.instruction.Arg.{Arg}
 use Rattle.class_model.specs.declared.instruction.Insn.{Insn}
 use Rattle.mt_pool.specs.Indices as pool_indices
-use Rattle.mt_insn.specs.Named.{names, is_loaded, is_long, is_field, is_method, is_any_method, is_interface_method, is_class, desc_counted, entry_counted, is_counted}
+use Rattle.mt_insn.specs.Named.{names, is_loaded, is_long, is_field, is_method, is_any_method, is_interface_method, is_dynamic, is_class, desc_counted, entry_counted, is_counted}
 use Rattle.mt_insn.specs.Opcode.{form_of}
 use Rattle.mt_insn.specs.Spelling.{index_in, count_in}
 use Rattle.mt_insn.specs.Code.{HasNames, HasFormedNames, NamesRight}
@@ -133,6 +133,7 @@ module _ (pool more : List Const) where
   arg_grows form.Method a q = names_grow is_method (index_in (operand.Done a)) q
   arg_grows form.AnyMethod a q = names_grow is_any_method (index_in (operand.Done a)) q
   arg_grows form.Interface a q = (names_grow is_interface_method (index_in (operand.Done a)) q.0, counted_case (index_in (operand.Done a)) (count_in (operand.Done a)) q.1)
+  arg_grows form.Dynamic a q = names_grow is_dynamic (index_in (operand.Done a)) q
   arg_grows form.Class a q = names_grow is_class (index_in (operand.Done a)) q
   arg_grows form.Dimensions a q = names_grow is_class (index_in (operand.Done a)) q
   arg_grows f a q = tt

@@ -110,7 +110,7 @@ module _ (mv : ℕ → ℕ) where
   arg_moved form.Method a q = same_arg (IsArg form.Method) a _ q.0 refl q
   arg_moved form.AnyMethod a q = same_arg (IsArg form.AnyMethod) a _ q.0 refl q
   arg_moved form.Interface a q = same_arg (IsArg form.Interface) a _ q.0 refl q
-  arg_moved form.Dynamic a q = absurd q
+  arg_moved form.Dynamic a q = same_arg (IsArg form.Dynamic) a _ q.0 refl q
   arg_moved form.Class a q = same_arg (IsArg form.Class) a _ q.0 refl q
   arg_moved form.Array a q = same_arg (IsArg form.Array) a _ q.0 refl q
   arg_moved form.Dimensions a q = same_arg (IsArg form.Dimensions) a _ q.0 refl q

@@ -17,7 +17,7 @@ use Rattle.class_model.specs.declared.instruction.Arg.{Arg}
 use Rattle.class_model.specs.declared.instruction.Arg.TheVariants as arg
 use Rattle.class_model.specs.declared.instruction.Insn.{Insn}
 use Rattle.mt_insn.specs.Opcode.{form_of}
-use Rattle.mt_insn.specs.Named.{names, is_loaded, is_long, is_field, is_method, is_any_method, is_interface_method, is_class, is_counted}
+use Rattle.mt_insn.specs.Named.{names, is_loaded, is_long, is_field, is_method, is_any_method, is_interface_method, is_dynamic, is_class, is_counted}
 use Rattle.mt_insn.specs.Spelling.{index_in, count_in, IsOperand, IsFormed, IsRaw}
 use Rattle.mt_insn.specs.Code.{size_at, places, operand_of, raws_from, code, HasNames, HasFormedNames, NamesRight}
 use Rattle.mt_insn.specs.declared.opcode.Form.{Form}
@@ -81,6 +81,7 @@ arg_named pool form.LongConstant starts place a q = named is_long pool starts pl
 arg_named pool form.Field starts place a q = named is_field pool starts place a q.2
 arg_named pool form.Method starts place a q = named is_method pool starts place a q.2
 arg_named pool form.AnyMethod starts place a q = named is_any_method pool starts place a q.2
+arg_named pool form.Dynamic starts place a q = named is_dynamic pool starts place a q.2
 arg_named pool form.Class starts place a q = named is_class pool starts place a q.2
 arg_named pool form.Dimensions starts place a q = named is_class pool starts place a q.3
 arg_named pool form.Interface starts place a q =

@@ -31,7 +31,7 @@ use Rattle.class_model.specs.declared.instruction.Arg.{Arg}
 use Rattle.class_model.specs.declared.instruction.Arg.TheVariants as arg
 use Rattle.class_model.specs.declared.instruction.Insn.{Insn}
 use Rattle.mt_pool.specs.Indices as pool_indices
-use Rattle.mt_insn.specs.Named.{names, is_loaded, is_long, is_field, is_method, is_any_method, is_interface_method, is_class, is_counted}
+use Rattle.mt_insn.specs.Named.{names, is_loaded, is_long, is_field, is_method, is_any_method, is_interface_method, is_dynamic, is_class, is_counted}
 use Rattle.mt_insn.specs.Opcode.{form_of}
 use Rattle.mt_insn.specs.Spelling.{index_in, count_in}
 use Rattle.mt_insn.specs.Code.{HasForm, HasNames, HasFormedNames, NamesRight, code_length, places, code, is_short}
@@ -101,6 +101,7 @@ module _ (mv : ℕ → ℕ) where
       kept is_interface_method a q.0,
       subst (λ (n : ℕ). is_counted pool n (count_in (operand.Done (moved_arg mv a))) ≡ true) (sym (same_index a)) (subst (λ (n : ℕ). is_counted pool (index_in (operand.Done a)) n ≡ true) (sym (same_count a)) q.1),
     )
+    arg_names form.Dynamic a q = kept is_dynamic a q
     arg_names form.Class a q = kept is_class a q
     arg_names form.Dimensions a q = kept is_class a q
     arg_names f a q = tt

@@ -31,7 +31,7 @@ use Rattle.class_link.specs.Appended.{NamesWithin}
 use Rattle.class_link.specs.Linking as linking
 use Rattle.class_link.specs.Linking.{content_of, lines_of, frames_of, class_or_none, vtype_in, shape_in, frame_in, row_in, code_in, field_in, method_in, first_of, value_of, code_within, constant_of}
 use Rattle.class_link.proofs.AppendedLaws.{appended_mean_the_same}
-use Rattle.mt_insn.specs.Named.{names, is_loaded, is_long, is_field, is_method, is_any_method, is_interface_method, is_class, is_some_and}
+use Rattle.mt_insn.specs.Named.{names, is_loaded, is_long, is_field, is_method, is_any_method, is_interface_method, is_dynamic, is_class, is_some_and}
 use Rattle.mt_insn.specs.Opcode.{form_of}
 use Rattle.mt_insn.specs.Spelling.{index_in}
 use Rattle.mt_insn.specs.Code.{HasForm, IsFormedArg, IsArg, IsWideArg, HasNames, HasFormedNames, NamesRight}
@@ -120,7 +120,6 @@ module _ (pool more : List Const) (formed_pool : IsPoolForm pool) where
   arg_within form.Table a q h = subst (NamesWithin (length pool)) (sym q.0) tt
   arg_within form.Lookup a q h = subst (NamesWithin (length pool)) (sym q.0) tt
   arg_within form.Interface a q h = by_count is_interface_method a _ q.0 h.0
-  arg_within form.Dynamic a q h = absurd q
   arg_within form.Array a q h = subst (NamesWithin (length pool)) (sym q.0) tt
   arg_within form.Dimensions a q h = by_count is_class a _ q.0 h
   arg_within form.Constant a q h = by_pool is_loaded a q.0 h
@@ -128,6 +127,7 @@ module _ (pool more : List Const) (formed_pool : IsPoolForm pool) where
   arg_within form.Field a q h = by_pool is_field a q.0 h
   arg_within form.Method a q h = by_pool is_method a q.0 h
   arg_within form.AnyMethod a q h = by_pool is_any_method a q.0 h
+  arg_within form.Dynamic a q h = by_pool is_dynamic a q.0 h
   arg_within form.Class a q h = by_pool is_class a q.0 h
 
   wide_within : (f : Form) (a : Arg) → IsWideArg f a → NamesWithin (length pool) a

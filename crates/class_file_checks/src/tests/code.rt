@@ -10,10 +10,10 @@ use std::alloc::Global;
 use std::test::Fail;
 
 /// A text, a class by it, an int, a float, the descriptor `(IJ)V`, the pair of both, an interface's
-/// method, and a handle of that.
-const POOL: [u8; 41] = [
-    0, 9, 1, 0, 1, b'm', 7, 0, 1, 3, 0, 0, 0, 7, 4, 0, 0, 0, 0, 1, 0, 5, b'(', b'I', b'J', b')',
-    b'V', 12, 0, 1, 0, 5, 11, 0, 2, 0, 6, 15, 9, 0, 7,
+/// method, a handle of that, and a call site.
+const POOL: [u8; 46] = [
+    0, 10, 1, 0, 1, b'm', 7, 0, 1, 3, 0, 0, 0, 7, 4, 0, 0, 0, 0, 1, 0, 5, b'(', b'I', b'J', b')',
+    b'V', 12, 0, 1, 0, 5, 11, 0, 2, 0, 6, 15, 9, 0, 7, 18, 0, 0, 0, 6,
 ];
 
 fn pool(alloc: Global) -> Result<Seq<Const>, ClassFault> {
@@ -38,7 +38,7 @@ fn comes_back(alloc: Global, bytes: &[u8], starts: &[u32]) -> Result<bool, Fail>
 /// A code, and where its instructions begin.
 type CodeRow = (&'static [u8], &'static [u32]);
 
-const CODES: [CodeRow; 4] = [
+const CODES: [CodeRow; 5] = [
     // iload_0; ifeq 6; iconst_0; ireturn; iconst_1; ireturn
     (
         &[0x1a, 0x99, 0, 5, 0x03, 0xac, 0x04, 0xac],
@@ -63,6 +63,8 @@ const CODES: [CodeRow; 4] = [
     // invokeinterface with the words of its receiver, its int and its long; ldc of the int;
     // newarray of int
     (&[0xb9, 0, 7, 4, 0, 0x12, 3, 0xbc, 10], &[0, 5, 7]),
+    // invokedynamic; return
+    (&[0xba, 0, 9, 0, 0, 0xb1], &[0, 5]),
 ];
 
 /// The number of the first code that comes back as another; how many there are, where none does.
@@ -82,14 +84,14 @@ fn changed_of_codes(alloc: Global) -> Result<usize, Fail> {
 
 #[test]
 fn codes_come_back(rt: HostRuntime) -> Result<(), Fail> {
-    assert_eq!(rt; changed_of_codes(rt.alloc())?, 4);
+    assert_eq!(rt; changed_of_codes(rt.alloc())?, 5);
     Ok(())
 }
 
 // What is told of a code whose first byte is at place 1000 of its file.
 type FaultRow = (&'static [u8], Option<ClassFault>);
 
-const WRONG_CODES: [FaultRow; 22] = [
+const WRONG_CODES: [FaultRow; 25] = [
     // iconst_0; lookupswitch at 1: two bytes of padding, default 27, keys 3 and 1
     (
         &[
@@ -141,15 +143,16 @@ const WRONG_CODES: [FaultRow; 22] = [
     (&[0x12, 2], None),
     (&[0x12, 4], Some(ClassFault::FloatUsed { at: 1001 })),
     (&[0x12, 8], Some(ClassFault::DynamicUsed { at: 1001 })),
-    (&[0x12, 9], Some(ClassFault::BadIndex { at: 1001 })),
+    (&[0x12, 10], Some(ClassFault::BadIndex { at: 1001 })),
     // newarray of a float, and of no type
     (&[0xbc, 6], Some(ClassFault::FloatUsed { at: 1001 })),
     (&[0xbc, 3], Some(ClassFault::BadTag { at: 1001, tag: 3 })),
-    // invokedynamic
-    (
-        &[0xba, 0, 1, 0, 0],
-        Some(ClassFault::DynamicUsed { at: 1000 }),
-    ),
+    // invokedynamic of a text, where a byte behind the index isn't 0 either; each of these bytes
+    // alone; and cut
+    (&[0xba, 0, 1, 1, 0], Some(ClassFault::BadIndex { at: 1001 })),
+    (&[0xba, 0, 9, 1, 0], Some(ClassFault::Padding { at: 1003 })),
+    (&[0xba, 0, 9, 0, 1], Some(ClassFault::Padding { at: 1004 })),
+    (&[0xba, 0, 9, 0], Some(ClassFault::BadLength { at: 1000 })),
     // invokeinterface of one word less, with a last byte that isn't 0, and of a class
     (
         &[0xb9, 0, 7, 3, 0],
@@ -181,6 +184,6 @@ fn other_of_wrong_codes(alloc: Global) -> Result<usize, Fail> {
 
 #[test]
 fn the_first_fault_is_told(rt: HostRuntime) -> Result<(), Fail> {
-    assert_eq!(rt; other_of_wrong_codes(rt.alloc())?, 22);
+    assert_eq!(rt; other_of_wrong_codes(rt.alloc())?, 25);
     Ok(())
 }

@@ -140,8 +140,23 @@ fn other_of_damages(alloc: Global) -> Result<usize, Fail> {
     first_other(alloc, &EACH_KIND, &DAMAGES)
 }
 
+/// A class with the beginning of the names of call sites.
+const SITE: [u8; 16] = [
+    0x00, 0x03, 0x01, 0x00, 0x08, 0x6d, 0x74, 0x2f, 0x53, 0x69, 0x74, 0x65, 0x3b, 0x07, 0x00, 0x01,
+];
+
+const SITE_DAMAGES: [Damage; 2] = [
+    (12, b';', Some(ClassFault::BadText { at: 22 })),
+    (12, b'1', None),
+];
+
+fn other_of_sites(alloc: Global) -> Result<usize, Fail> {
+    first_other(alloc, &SITE, &SITE_DAMAGES)
+}
+
 #[test]
 fn damaged_pools(rt: HostRuntime) -> Result<(), Fail> {
     assert_eq!(rt; other_of_damages(rt.alloc())?, 16);
+    assert_eq!(rt; other_of_sites(rt.alloc())?, 2);
     Ok(())
 }
