@@ -78,7 +78,7 @@ none_where (c ∷ cs) n none =
     ap (λ b. if b then Some c.1 else class_among cs n) (not_same c.0 n (same c.0 n) refl (none c (inl refl)))
     ∙ none_where cs n (λ x is_in. none x (inr is_in))
 
-in_either : (x : Class) (xs ys : List Class) → In x (xs ++ ys) → In x xs ⊎ In x ys
+pub in_either : (x : Class) (xs ys : List Class) → In x (xs ++ ys) → In x xs ⊎ In x ys
 in_either x [] ys is_in = inr is_in
 in_either x (z ∷ xs) ys is_in =
     ⊎_elim (λ e. inl (inl e)) (λ j. ⊎_elim (λ l. inl (inr l)) (λ r. inr r) (in_either x xs ys j)) is_in

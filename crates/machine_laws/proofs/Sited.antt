@@ -286,7 +286,7 @@ no_dynamic [] at r h e = cc
 no_dynamic (i ∷ is) zero r h e = let same_one : i ≡ InvokeDynamic r = cc in let no : is_dynamic i ≡ true = ap is_dynamic same_one in let yes = first_of_or (is_dynamic i) (list_any is_dynamic is) h in cc
 no_dynamic (i ∷ is) (suc at) r h e = no_dynamic is at r (rest_of_or (is_dynamic i) (list_any is_dynamic is) h) e
 
-one_method : (own : Name) (s : Site) (k : ℕ) (m : LinkedMethod) → slice_get (adapter_method s (code_or_none (adapter_code own s)) ∷ []) k ≡ Some m → adapter_method s (code_or_none (adapter_code own s)) ≡ m
+pub one_method : (own : Name) (s : Site) (k : ℕ) (m : LinkedMethod) → slice_get (adapter_method s (code_or_none (adapter_code own s)) ∷ []) k ≡ Some m → adapter_method s (code_or_none (adapter_code own s)) ≡ m
 one_method own s zero m e = (let z : adapter_method s (code_or_none (adapter_code own s)) ≡ m = cc in z)
 one_method own s (suc k) m e = cc
 

@@ -1,3 +1,4 @@
 pub mod Ordered
 pub mod Walks
 pub mod Bounded
+pub mod Adapted
