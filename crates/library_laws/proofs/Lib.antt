@@ -18,11 +18,13 @@ pub mod Optionals
 pub mod Iterators
 pub mod KeepingClasses
 mod LinkingArrays
+mod StatedKinds
 pub mod Operands
 mod Instructions
 mod LinkingAccepted
 mod LinkingClasses
 mod Programs
+mod Adapting
 mod Over
 mod Machine
 mod Closed

@@ -36,7 +36,7 @@ not_array_at u units true is e =
     let no : true ≡ false = sym (subst (λ v. is_class_name (v ∷ units) ≡ true) (eqb-true u 91 is) e) ∙ no_bracket units in
     absurd cc
 
-not_array : (name : Name) → is_class_name name ≡ true → is_array_name name ≡ false
+pub not_array : (name : Name) → is_class_name name ≡ true → is_array_name name ≡ false
 not_array [] e = refl
 not_array (u ∷ units) e = not_array_at u units (nat_eq u 91) refl e
 
@@ -50,7 +50,7 @@ without_last_of [] u = refl
 without_last_of (v ∷ []) u = refl
 without_last_of (v ∷ w ∷ name) u = ap (λ rest. v ∷ rest) (without_last_of (w ∷ name) u)
 
-plain_descriptor : (name : Name) (b : Bool) → is_array_name name ≡ b → b ≡ false → descriptor_of name ≡ 76 ∷ name ++ 59 ∷ []
+pub plain_descriptor : (name : Name) (b : Bool) → is_array_name name ≡ b → b ≡ false → descriptor_of name ≡ 76 ∷ name ++ 59 ∷ []
 plain_descriptor name true is e = absurd cc
 plain_descriptor name false is e = rw is refl
 

@@ -1,9 +1,10 @@
 -- Each class of a program of class files and the library has the kinds of its descriptors.
 use Rattle.std.proofs.Common.{◌≡◌, refl, ℕ, Bool, true, false, List, [], ◌∷◌, map, Option, Some, None, IfSome}
-use Rattle.std.specs.Prelude.{IsSomeAnd, if◌then◌else◌}
+use Rattle.std.specs.Prelude.{IsSomeAnd, ◌&&◌, nat_eq, if◌then◌else◌}
+use Rattle.std.specs.Option.{option_map}
 use Rattle.std.specs.List.{AllByRecursion, list_all}
 use Rattle.std.proofs.lemmas.Bool.{and_parts}
-use Rattle.class_model.specs.Pool.{text_of, IsEntry, IsClassEntryName}
+use Rattle.class_model.specs.Pool.{entry_of, text_of, IsEntry, IsClassEntryName}
 use Rattle.class_model.specs.declared.attribute.Code.{Code, out-Code}
 use Rattle.class_model.specs.declared.class.Class.{Class}
 use Rattle.class_model.specs.declared.class.Member.{Member}
@@ -11,13 +12,18 @@ use Rattle.class_model.specs.declared.constant.Const.{Const}
 use Rattle.class_model.specs.declared.constant.Const.TheVariants as const
 use Rattle.class_reader.specs.Spells.{IsClass}
 use Rattle.program_rules.specs.Names.{Name, same}
-use Rattle.program_rules.specs.Linked.{Linked, LinkedField, LinkedMethod, LinkedBody, IsNative, code_in}
+use Rattle.program_rules.specs.Linked.{Linked, LinkedField, LinkedMethod, LinkedBody, IsNative, Bootstrap, code_in}
+use Rattle.program_rules.specs.Instructions.{MethodRef}
+use Rattle.type_laws.specs.Soundness.{MethodMeant}
+use Rattle.program_laws.specs.Adapted.{IsBootMeant}
+use Rattle.library_laws.proofs.Operands.{MemberMeant, member_meant}
 use Rattle.program_rules.specs.Library.{class_among, first_of}
 use Rattle.program_rules.specs.Deeds.{Meaning}
 use Rattle.library_rules.specs.Numbered.{meaning_numbered}
 use Rattle.class_link.specs.Linking as linking
 use Rattle.class_link.specs.Linking.{code_within, method_in, field_in, link, native_body, native_or_none, library_body, library_method, library_field, link_library}
-use Rattle.class_link.specs.Symbols.{text_named, name_or_empty}
+use Rattle.class_link.specs.Symbols.{Symbol, IsOther, IsInteger, IsLong, IsText, IsClass as IsClassSymbol, IsField, IsMethod, IsDynamic, symbol_at, text_named, name_or_empty}
+use Rattle.class_link.specs.Bootstraps.{RawEntry, method_of, handle_of, handle_at, type_at, is_metafactory, bootstrap_with, bootstrap_by, if_metafactory, bootstrap_in, tables_of, entries_by}
 use Rattle.class_link.specs.declared.loaded.LibBody.{LibBody}
 use Rattle.class_link.specs.declared.loaded.LibBody.TheVariants as lib
 use Rattle.class_link.specs.declared.loaded.LibClass.{LibClass}
@@ -81,14 +87,66 @@ is_native other = false
 abbrev pub AreNotNative : List LinkedMethod → Type 0
 AreNotNative ms = AllByRecursion (λ m. is_native m.body ≡ false) ms
 
+abbrev BodyIs : LinkedBody → Type 0
+BodyIs b = IfSome (code_in b) (λ code. AllByRecursion IsNamed code.instructions)
+
+-- ---- bootstrap methods
+
+-- A bootstrap method has the kinds of its descriptors, if there is one.
+abbrev pub BootIs : Option Bootstrap → Type 0
+BootIs o = IfSome o (IsBootMeant descriptors)
+
+abbrev HandleIs : Option (ℕ × MethodRef) → Type 0
+HandleIs o = IfSome o (λ r. MethodMeant descriptors r.1)
+
+handle_case : (kind : ℕ) (s : Symbol) → MemberMeant s → HandleIs (option_map (λ r. (kind, r)) (method_of s))
+handle_case kind (IsMethod r) h = h
+handle_case kind (IsField r) h = tt
+handle_case kind (IsDynamic r) h = tt
+handle_case kind IsOther h = tt
+handle_case kind (IsInteger z) h = tt
+handle_case kind (IsLong z) h = tt
+handle_case kind (IsText t) h = tt
+handle_case kind (IsClassSymbol n) h = tt
+
+handle_is : (pool : List Const) (o : Option Const) → HandleIs (handle_of pool o)
+handle_is pool None = tt
+handle_is pool (Some (const.Handle kind member)) = handle_case kind (symbol_at pool member) (member_meant pool (entry_of pool member))
+handle_is pool (Some other) = tt
+
+with_is : (desc : Option Name) (target : Option (ℕ × MethodRef)) (inst : Option Name) → HandleIs target → BootIs (bootstrap_with desc target inst)
+with_is (Some desc) (Some target) (Some inst) h = record { args = refl; result = refl; target = h }
+with_is (Some desc) (Some target) None h = tt
+with_is (Some desc) None inst h = tt
+with_is None target inst h = tt
+
+by_is : (pool : List Const) (args : List ℕ) → BootIs (bootstrap_by pool args)
+by_is pool [] = tt
+by_is pool (a ∷ []) = tt
+by_is pool (a ∷ b ∷ []) = tt
+by_is pool (a ∷ b ∷ c ∷ []) = with_is (type_at pool a) (handle_at pool b) (type_at pool c) (handle_is pool (entry_of pool b))
+by_is pool (a ∷ b ∷ c ∷ x ∷ rest) = tt
+
+boot_is : (o : Option (ℕ × MethodRef)) (b : Option Bootstrap) → BootIs b → BootIs (if_metafactory o b)
+boot_is None b h = tt
+boot_is (Some r) b h = if_is (nat_eq r.0 6 && is_metafactory r.1)
+  where
+    if_is : (x : Bool) → BootIs (if x then b else None)
+    if_is true = h
+    if_is false = tt
+
+file_boots : (pool : List Const) (es : List RawEntry) → AllByRecursion BootIs (map (bootstrap_in pool) es)
+file_boots pool [] = tt
+file_boots pool (e ∷ es) = (boot_is (handle_at pool e.method) (bootstrap_by pool e.args) (by_is pool e.args), file_boots pool es)
+
+-- ---- a class
+
 -- Only a class of the library has native methods.
 pub record ClassIs (c : Linked) : Type 0 where
   pub natives : c.library ≡ false → AreNotNative c.methods
   pub methods : AllByRecursion MethodIs c.methods
   pub fields : AllByRecursion FieldIs c.fields
-
-abbrev BodyIs : LinkedBody → Type 0
-BodyIs b = IfSome (code_in b) (λ code. AllByRecursion IsNamed code.instructions)
+  pub bootstraps : AllByRecursion BootIs c.bootstraps
 
 -- ---- of class files
 
@@ -114,7 +172,7 @@ file_native pool (m ∷ ms) = (plain_body (linking.first_of code_within m.attrs)
 
 file_class : (c : Class) → IsClass c → ClassIs (link c)
 unfolding link
-file_class c spelled = record { natives = λ e. file_native c.pool c.methods; methods = file_methods c.pool (file_entries c.pool c.pool spelled.pool.form.entries) c.methods; fields = file_fields c.pool c.fields }
+file_class c spelled = record { natives = λ e. file_native c.pool c.methods; methods = file_methods c.pool (file_entries c.pool c.pool spelled.pool.form.entries) c.methods; fields = file_fields c.pool c.fields; bootstraps = file_boots c.pool (entries_by (tables_of c.pool c.attrs)) }
 
 -- ---- of the library
 
@@ -143,7 +201,7 @@ has_right_names c = list_all (is_right_entry c.pool) c.pool
 
 table_class : (c : LibClass) → has_right_names c ≡ true → ClassIs (link_library c)
 unfolding link_library has_right_names
-table_class c e = record { natives = λ no. absurd cc; methods = table_methods c.pool (table_entries c.pool c.pool e) c.methods; fields = table_fields c.fields }
+table_class c e = record { natives = λ no. absurd cc; methods = table_methods c.pool (table_entries c.pool c.pool e) c.methods; fields = table_fields c.fields; bootstraps = tt }
 
 library_right : list_all has_right_names library ≡ true
 unfolding has_right_names is_right_entry basic_interfaces collection_interfaces objects texts numbers throwables errors machine_exceptions library_exceptions collections list_classes hash_classes utility_classes assertions

@@ -2,18 +2,19 @@
 -- but for the arrays of multianewarray.
 use Rattle.std.proofs.Common.{◌≡◌, refl, ℕ, Bool, true, false, List, Option, None, Some, arith}
 use Rattle.std.specs.Prelude.{◌==◌, ◌||◌, nat_lt, if◌then◌else◌}
-use Rattle.class_model.specs.Pool.{entry_of}
+use Rattle.class_model.specs.Pool.{entry_of, pair_desc_of}
 use Rattle.class_model.specs.declared.constant.Const.{Const}
 use Rattle.class_model.specs.declared.constant.Const.TheVariants as const
 use Rattle.class_model.specs.declared.instruction.Arg.{Arg}
 use Rattle.class_model.specs.declared.instruction.Arg.TheVariants as arg
 use Rattle.class_model.specs.declared.instruction.Insn.{Insn}
-use Rattle.program_rules.specs.Instructions.{Instruction, GetStatic, PutStatic, GetField, PutField, InvokeVirtual, InvokeInterface, InvokeSpecial, InvokeStatic, NewMultiArray, TableSwitch, LookupSwitch, Unlinked}
-use Rattle.type_laws.specs.Soundness.{MethodMeant, FieldMeant, RefMeant}
-use Rattle.class_link.specs.Symbols.{Symbol, IsOther, IsInteger, IsLong, IsText, IsClass, IsField, IsMethod, IsDynamic, symbol_or_other, symbol_at}
+use Rattle.program_rules.specs.Instructions.{Instruction, GetStatic, PutStatic, GetField, PutField, InvokeVirtual, InvokeInterface, InvokeSpecial, InvokeStatic, InvokeDynamic, NewMultiArray, TableSwitch, LookupSwitch, Unlinked}
+use Rattle.type_laws.specs.Soundness.{MethodMeant, FieldMeant, AllStated, RefMeant}
+use Rattle.class_link.specs.Symbols.{Symbol, IsOther, IsInteger, IsLong, IsText, IsClass, IsField, IsMethod, IsDynamic, name_or_empty, symbol_or_other, symbol_at}
 use Rattle.class_link.specs.Opcodes as op
 use Rattle.class_link.specs.Opcodes.{instruction_by, instruction_in}
 use Rattle.library_laws.specs.Linked.{descriptors}
+use Rattle.library_laws.proofs.StatedKinds.{args_stated}
 
 -- ---- instructions that name nothing
 
@@ -27,6 +28,7 @@ is_free (PutStatic r) = false
 is_free (GetField r) = false
 is_free (PutField r) = false
 is_free (NewMultiArray n k) = false
+is_free (InvokeDynamic r) = false
 is_free other = true
 
 short_load_free : (n : ℕ) → is_free (op.short_load n) ≡ true
@@ -64,16 +66,18 @@ target_free n to = grind (arith)
 
 -- ---- members that a constant pool has
 
-abbrev MemberMeant : Symbol → Type 0
+abbrev pub MemberMeant : Symbol → Type 0
 MemberMeant (IsField r) = FieldMeant descriptors r
 MemberMeant (IsMethod r) = MethodMeant descriptors r
+MemberMeant (IsDynamic r) = AllStated descriptors r.args
 MemberMeant other = Unit {0}
 
-member_meant : (pool : List Const) (o : Option Const) → MemberMeant (symbol_or_other pool o)
+pub member_meant : (pool : List Const) (o : Option Const) → MemberMeant (symbol_or_other pool o)
 member_meant pool None = tt
 member_meant pool (Some (const.Field class pair)) = refl
 member_meant pool (Some (const.Method class pair)) = (refl, refl)
 member_meant pool (Some (const.IMethod class pair)) = (refl, refl)
+member_meant pool (Some (const.Dynamic bootstrap pair)) = args_stated (name_or_empty (pair_desc_of pool pair))
 member_meant pool (Some other) = tt
 
 -- ---- all instructions
@@ -100,6 +104,7 @@ module _ (asked : Instruction → Bool) where
   free (GetField r) e = absurd cc
   free (PutField r) e = absurd cc
   free (NewMultiArray n k) e = absurd cc
+  free (InvokeDynamic r) e = absurd cc
   free other e = record { meant = λ e. tt }
 
   plain_meant : (n : ℕ) → IsMeant (op.plain_instruction n)
@@ -127,7 +132,9 @@ module _ (asked : Instruction → Bool) where
   with_symbol_meant n (IsLong z) h = free (op.with_symbol n (IsLong z)) (let e : is_free (op.with_symbol n (IsLong z)) ≡ true = grind (arith) in e)
   with_symbol_meant n (IsText t) h = free (op.with_symbol n (IsText t)) (let e : is_free (op.with_symbol n (IsText t)) ≡ true = grind (arith) in e)
   with_symbol_meant n (IsClass c) h = free (op.with_symbol n (IsClass c)) (let e : is_free (op.with_symbol n (IsClass c)) ≡ true = grind (arith) in e)
-  with_symbol_meant n (IsDynamic r) h = free (op.with_symbol n (IsDynamic r)) (let e : is_free (op.with_symbol n (IsDynamic r)) ≡ true = grind (arith) in e)
+  with_symbol_meant n (IsDynamic r) h =
+      let dynamically : IsMeant (InvokeDynamic r) = record { meant = λ e. h } in
+      pick (n == 0x12 || n == 0x13) un (pick (n == 0x14) un (pick (n == 0xb2) un (pick (n == 0xb3) un (pick (n == 0xb4) un (pick (n == 0xb5) un (pick (n == 0xb6) un (pick (n == 0xb7) un (pick (n == 0xb8) un (pick (n == 0xba) dynamically (pick (n == 0xbb) un (pick (n == 0xbd) un (pick (n == 0xc0) un (pick (n == 0xc1) un un)))))))))))))
 
   interface_meant : (s : Symbol) → MemberMeant s → IsMeant (op.on_method InvokeInterface s)
   interface_meant (IsMethod r) h = record { meant = λ e. h }

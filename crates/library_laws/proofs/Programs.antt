@@ -18,25 +18,25 @@ use Rattle.library_laws.proofs.LinkingAccepted.{named_arrays}
 use Rattle.library_laws.proofs.Instructions.{IsNamed}
 use Rattle.library_laws.proofs.LinkingClasses.{MethodIs, FieldIs, ClassIs, is_native, class_is}
 
-item_of : {X : Type 0} (P : X → Type 0) (xs : List X) (k : ℕ) (x : X) → AllByRecursion P xs → slice_get xs k ≡ Some x → P x
+pub item_of : {X : Type 0} (P : X → Type 0) (xs : List X) (k : ℕ) (x : X) → AllByRecursion P xs → slice_get xs k ≡ Some x → P x
 item_of P [] k x h e = absurd cc
 item_of P (y ∷ xs) zero x h e = let one : y ≡ x = cc in subst P one h.0
 item_of P (y ∷ xs) (suc k) x h e = item_of P xs k x h.1 e
 
 -- Nothing is asked of a body that isn't native.
-not_native : (p : Look) (n : Name) (m : LinkedMethod) (b : LinkedBody) → is_native b ≡ false → BodyFits p n m b
+pub not_native : (p : Look) (n : Name) (m : LinkedMethod) (b : LinkedBody) → is_native b ≡ false → BodyFits p n m b
 not_native p n m (HasCode code) e = tt
 not_native p n m (IsNative meaning) e = absurd cc
 not_native p n m NoBody e = tt
 
 module _ (classes : List Class) (spelled : All IsClass classes) where
-  class_there : (n : Name) (c : Linked) → program_of classes n ≡ Some c → ClassIs c
+  pub class_there : (n : Name) (c : Linked) → program_of classes n ≡ Some c → ClassIs c
   class_there n c has = subst (λ o. IfSome o ClassIs) has (class_is classes n (recursion_from_All IsClass classes spelled))
 
-  method_there : (n : Name) (c : Linked) (k : ℕ) (m : LinkedMethod) → program_of classes n ≡ Some c → slice_get c.methods k ≡ Some m → MethodIs m
+  pub method_there : (n : Name) (c : Linked) (k : ℕ) (m : LinkedMethod) → program_of classes n ≡ Some c → slice_get c.methods k ≡ Some m → MethodIs m
   method_there n c k m has get = item_of MethodIs c.methods k m (class_there n c has).methods get
 
-  in_code : (m : LinkedMethod) (code : LinkedCode) → m.body ≡ HasCode code → MethodIs m → AllByRecursion IsNamed code.instructions
+  pub in_code : (m : LinkedMethod) (code : LinkedCode) → m.body ≡ HasCode code → MethodIs m → AllByRecursion IsNamed code.instructions
   in_code m code body h = subst (λ b. IfSome (code_in b) (λ (c : LinkedCode). AllByRecursion IsNamed c.instructions)) body h.names
 
   module _ (natives : NativesFit (program_of classes)) where

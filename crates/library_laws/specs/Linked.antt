@@ -6,6 +6,7 @@ use Rattle.class_reader.specs.Spells.{IsClass}
 use Rattle.program_rules.specs.Names.{Name}
 use Rattle.program_rules.specs.Linked.{Linked, LinkedMethod}
 use Rattle.program_rules.specs.Programs.{Look}
+use Rattle.program_rules.specs.Adapters.{with_adapters}
 use Rattle.type_rules.specs.Rules.{Accepted}
 use Rattle.type_laws.specs.Soundness.{Meanings, BodyFits, IsLinkedBy}
 use Rattle.class_link.specs.Symbols.{kind_of, kind_stated, type_stated}
@@ -33,3 +34,11 @@ abbrev pub AcceptedAreLinked : Type 0
 AcceptedAreLinked =
     (classes : List Class) → All IsClass classes → NativesFit (program_of classes) →
     Accepted (program_of classes) → IsLinkedBy (program_of classes) descriptors
+
+-- So is such a program with the adapters of its sites, where that is accepted.
+abbrev pub AdaptedAreLinked : Type 0
+AdaptedAreLinked =
+    (classes : List Class) → All IsClass classes →
+    NativesFit (with_adapters (program_of classes)) →
+    Accepted (with_adapters (program_of classes)) →
+    IsLinkedBy (with_adapters (program_of classes)) descriptors

@@ -15,7 +15,7 @@ pub use accepted::{library_is_accepted, library_is_accepted_behind};
 pub use arrays::{arrays_have_supers, files_are_no_arrays};
 pub use bounded::library_is_bounded;
 pub use kept_items::natives_that_keep_items_fit;
-pub use linking::accepted_are_linked;
+pub use linking::{accepted_are_linked, adapted_are_linked};
 pub use native_methods::natives_fit;
 pub use natives::{keepers_have_hosts, natives_have_hosts};
 pub use whole::{

@@ -10,10 +10,10 @@ use Rattle.program_rules.specs.Programs.{Look}
 use Rattle.program_rules.specs.Library.{class_among, first_of}
 use Rattle.program_rules.specs.Sites.{Site, is_site_name, is_dynamic, site_name, site_of, site_by, site_given, box_name, boxes, unboxes, casts_to, unboxes_from, converts_kind, converts_result, words_of_kind, loads_kind, joined, arguments_code, captured_code, captured_fields, taken_kinds, given_kind, is_making, calls_target, starts_code, returns_kind, code_of_parts, code_with, adapter_code, code_or_none, adapter_method, adapter}
 use Rattle.program_rules.specs.Adapters.{is_interface_at, adapter_if, adapters_in_code, adapters_in_body, adapters_in_methods, adapters_in_class, owner_told, adapter_told, adapters_by, with_adapters}
-use Rattle.type_laws.specs.Soundness.{Meanings, MethodMeant, AllStated, RefMeant, BodyFits, IsLinkedBy}
+use Rattle.type_laws.specs.Soundness.{Meanings, MethodMeant, AllStated, RefMeant, BodyFits}
 use Rattle.machine_laws.proofs.Sited.{Class, In, among_in, step_case, dynamic_is, one_method}
 use Rattle.machine_laws.proofs.Distinct.{in_either}
-use Rattle.program_laws.specs.Adapted.{IsBootMeant, BootstrapsMeant, MeansBoxes, NativesFitBeside, AdaptedIsLinked}
+use Rattle.program_laws.specs.Adapted.{IsBootMeant, KindsAreMeant, MeansBoxes, AdaptedIsLinked}
 
 all_joined : {X : Type 0} (P : X → Type 0) (xs ys : List X) → AllByRecursion P xs → AllByRecursion P ys → AllByRecursion P (xs ++ ys)
 all_joined P [] ys h k = k
@@ -284,12 +284,12 @@ module _ (d : Meanings) (means : MeansBoxes d) where
         (λ r. in_methods (suc k) ms x (λ j y code e f. h (suc j) y code e f) r)
         (in_either x (adapters_in_body p class bs k (code_in m.body)) (adapters_in_methods p class bs (suc k) ms) is_in)
 
-  module _ (p : Look) (l : IsLinkedBy p d) (boots : BootstrapsMeant p d) where
+  module _ (p : Look) (l : KindsAreMeant p d) where
     told_case : (n owner : Name) (o : Option Linked) (a : Linked) → p owner ≡ o → class_among (adapters_in_class p owner o) n ≡ Some a → IsMeantAdapter a
     told_case n owner None a has e = absurd cc
     told_case n owner (Some c) a has e =
         let made = adapters_in_methods p owner c.bootstraps 0 c.methods in
-        in_methods p owner c.bootstraps (λ k b f. boots owner c k b has f) 0 c.methods (n, a)
+        in_methods p owner c.bootstraps (λ k b f. l.bootstrap owner c k b has f) 0 c.methods (n, a)
         (λ j m code get body. from_items (RefMeant d) code.instructions (λ at i stands. l.reference owner c j m code at i has get body stands))
         (among_in n a made e)
 
@@ -339,13 +339,13 @@ module _ (d : Meanings) (means : MeansBoxes d) where
         item_of (RefMeant d) code.instructions at i (subst AllMeant list (code_meant a.own a.site a.meant)) stands
 
 pub is_linked : AdaptedIsLinked
-is_linked p d l boots means natives = record {
-  method = λ n c k m has get. class_case d means p l boots n c (p n) refl has (λ own. l.method n c k m own get) (λ a. method_is d means c a k m get);
-  native = λ n c k m has get. class_case d means p l boots n c (p n) refl has (λ own. natives n c k m own get) (λ a. body_fits d means c a (with_adapters p) n k m get);
-  field = λ n c k f has get. class_case d means p l boots n c (p n) refl has (λ own. l.field n c k f own get) (λ a. field_is d means c a k f get);
+is_linked p d l means natives = record {
+  method = λ n c k m has get. class_case d means p l n c (p n) refl has (λ own. l.method n c k m own get) (λ a. method_is d means c a k m get);
+  native = λ n c k m has get. class_case d means p l n c (p n) refl has (λ own. natives n c k m own get) (λ a. body_fits d means c a (with_adapters p) n k m get);
+  field = λ n c k f has get. class_case d means p l n c (p n) refl has (λ own. l.field n c k f own get) (λ a. field_is d means c a k f get);
   reference =
       λ n c k m code at i has get body stands.
-      class_case d means p l boots n c (p n) refl has (λ own. l.reference n c k m code at i own get body stands) (λ a. reference_is d means c a k m code at i get body stands);
+      class_case d means p l n c (p n) refl has (λ own. l.reference n c k m code at i own get body stands) (λ a. reference_is d means c a k m code at i get body stands);
   plain_args = l.plain_args;
   plain_result = l.plain_result;
   clone_args = l.clone_args;

@@ -1,4 +1,4 @@
 mod Built
 pub mod Walks
 pub mod Codes
-mod Adapted
+pub mod Adapted

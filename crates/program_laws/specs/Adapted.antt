@@ -1,8 +1,9 @@
 -- A program with the adapters of its sites is linked by descriptors.
-use Rattle.std.specs.Prelude.{◌≡◌, ℕ, true, Option, Some, slice_get}
-use Rattle.program_rules.specs.Names.{Name}
-use Rattle.program_rules.specs.Kinds.{Kind}
-use Rattle.program_rules.specs.Linked.{Linked, LinkedMethod, Bootstrap}
+use Rattle.std.specs.Prelude.{◌≡◌, ℕ, true, [], Option, Some, None, slice_get, codes}
+use Rattle.program_rules.specs.Names.{Name, object_name, plain_descriptor}
+use Rattle.program_rules.specs.Kinds.{Kind, OfReference}
+use Rattle.program_rules.specs.Instructions.{Instruction}
+use Rattle.program_rules.specs.Linked.{Linked, LinkedField, LinkedMethod, LinkedCode, HasCode, Bootstrap}
 use Rattle.program_rules.specs.Programs.{Look}
 use Rattle.program_rules.specs.Sites.{is_primitive, boxes, unboxes}
 use Rattle.program_rules.specs.Adapters.{with_adapters}
@@ -14,13 +15,28 @@ pub record IsBootMeant (d : Meanings) (b : Bootstrap) : Type 0 where
   pub result : b.result ≡ d.result b.desc
   pub target : MethodMeant d b.target
 
--- So they have in each class. Who links class files gives this.
-abbrev pub BootstrapsMeant : Look → Meanings → Type 0
-BootstrapsMeant p d =
-    (n : Name) (c : Linked) (k : ℕ) (b : Bootstrap) → p n ≡ Some c →
-    slice_get c.bootstraps k ≡ Some (Some b) → IsBootMeant d b
+-- What `IsLinkedBy` asks but for native methods, and so of bootstrap methods. Who links class files
+-- gives this.
+pub record KindsAreMeant (p : Look) (d : Meanings) : Type 0 where
+  pub method :
+      (n : Name) (c : Linked) (k : ℕ) (m : LinkedMethod) → p n ≡ Some c →
+      slice_get c.methods k ≡ Some m → (m.args ≡ d.args m.desc) × (m.result ≡ d.result m.desc)
+  pub field :
+      (n : Name) (c : Linked) (k : ℕ) (f : LinkedField) → p n ≡ Some c →
+      slice_get c.fields k ≡ Some f → f.kind ≡ d.field f.desc
+  pub reference :
+      (n : Name) (c : Linked) (k : ℕ) (m : LinkedMethod) (code : LinkedCode) (at : ℕ)
+      (i : Instruction) → p n ≡ Some c → slice_get c.methods k ≡ Some m → m.body ≡ HasCode code →
+      slice_get code.instructions at ≡ Some i → RefMeant d i
+  pub bootstrap :
+      (n : Name) (c : Linked) (k : ℕ) (b : Bootstrap) → p n ≡ Some c →
+      slice_get c.bootstraps k ≡ Some (Some b) → IsBootMeant d b
+  pub plain_args : d.args plain_descriptor ≡ []
+  pub plain_result : d.result plain_descriptor ≡ None
+  pub clone_args : d.args (codes "()Ljava/lang/Object;") ≡ []
+  pub clone_result : d.result (codes "()Ljava/lang/Object;") ≡ Some (OfReference object_name)
 
--- So have the methods of boxes.
+-- The methods of boxes have the kinds of their descriptors.
 pub record MeansBoxes (d : Meanings) : Type 0 where
   pub box : (k : Kind) → is_primitive k ≡ true → RefMeant d (boxes k)
   pub unbox : (k : Kind) → is_primitive k ≡ true → RefMeant d (unboxes k)
@@ -34,5 +50,5 @@ NativesFitBeside p =
 -- Then all kinds of the program with its adapters are those of descriptors.
 abbrev pub AdaptedIsLinked : Type 0
 AdaptedIsLinked =
-    (p : Look) (d : Meanings) → IsLinkedBy p d → BootstrapsMeant p d → MeansBoxes d →
-    NativesFitBeside p → IsLinkedBy (with_adapters p) d
+    (p : Look) (d : Meanings) → KindsAreMeant p d → MeansBoxes d → NativesFitBeside p →
+    IsLinkedBy (with_adapters p) d
