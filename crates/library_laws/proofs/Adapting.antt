@@ -1,5 +1,5 @@
 -- A program of class files and the library with the adapters of its sites is linked by descriptors.
-use Rattle.std.proofs.Common.{◌≡◌, refl, ap, ◌∙◌, ℕ, Bool, true, false, List, [], ◌∷◌, Option, Some, None, IfSome, All}
+use Rattle.std.proofs.Common.{◌≡◌, refl, ap, ℕ, Bool, true, false, List, Option, Some, All}
 use Rattle.std.specs.Prelude.{slice_get}
 use Rattle.std.specs.Char.Utf16.{utf16_chars}
 use Rattle.class_model.specs.DescriptorReading.{parameters_at}
@@ -7,7 +7,7 @@ use Rattle.class_model.specs.declared.class.Class.{Class}
 use Rattle.class_reader.specs.Spells.{IsClass}
 use Rattle.program_rules.specs.Names.{Name}
 use Rattle.program_rules.specs.Kinds.{Kind, OfBoolean, OfByte, OfChar, OfShort, OfInt, OfLong, OfReference}
-use Rattle.program_rules.specs.Linked.{Linked, LinkedMethod, LinkedCode, Bootstrap}
+use Rattle.program_rules.specs.Linked.{Linked, LinkedMethod, Bootstrap}
 use Rattle.program_rules.specs.Programs.{Look}
 use Rattle.program_rules.specs.Library.{first_of}
 use Rattle.program_rules.specs.Sites.{is_primitive, boxes, unboxes}

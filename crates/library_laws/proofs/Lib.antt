@@ -31,6 +31,9 @@ mod Closed
 mod ArrayNames
 mod FileNames
 mod OfFiles
+mod PlainEntries
+mod PlainCode
+mod PlainPrograms
 mod Keeping
 mod Hosting
 pub mod Meaning

@@ -45,7 +45,7 @@ not_array (u ∷ units) e = not_array_at u units (nat_eq u 91) refl e
 abbrev IsNamed : Name → Type 0
 IsNamed text = descriptor_in (kind_in text) ≡ text
 
-without_last_of : (name : Name) (u : ℕ) → without_last (name ++ u ∷ []) ≡ name
+pub without_last_of : (name : Name) (u : ℕ) → without_last (name ++ u ∷ []) ≡ name
 without_last_of [] u = refl
 without_last_of (v ∷ []) u = refl
 without_last_of (v ∷ w ∷ name) u = ap (λ rest. v ∷ rest) (without_last_of (w ∷ name) u)

@@ -1,9 +1,9 @@
 -- A program of class files that were read and of the library has names and sizes of class files.
-use Rattle.std.proofs.Common.{◌≡◌, ◌∙◌, ◌<◌, ◌^◌, refl, sym, ap, subst, ℕ, zero, suc, Bool, true, false, List, [], ◌∷◌, map, length, Option, Some, None, slice_get, arith}
+use Rattle.std.proofs.Common.{◌≡◌, ◌∙◌, ◌<◌, ◌^◌, refl, sym, ap, subst, ℕ, Bool, true, false, List, [], ◌∷◌, map, length, Option, Some, None}
 use Rattle.std.specs.Prelude.{◌==◌, ◌||◌, ◌&&◌, nat_eq, nat_lt, not, cond, if◌then◌else◌, All}
 use Rattle.std.specs.List.{list_all, slice_split, onto_first}
 use Rattle.std.specs.Char.Utf16.{has_unpaired_surrogate, utf16_chars}
-use Rattle.std.proofs.lemmas.Bool.{and_parts, eqb-true, ltb-true, true≢false}
+use Rattle.std.proofs.lemmas.Bool.{and_parts, eqb-true, ltb-true}
 use Rattle.std.proofs.lemmas.List.{length-map}
 use Rattle.std.proofs.lemmas.List.Elements.{All-head, All-tail}
 use Rattle.class_model.specs.DeclaredName.{is_reserved, is_field_name, is_class_name}
@@ -12,11 +12,11 @@ use Rattle.class_model.specs.declared.class.Class.{Class}
 use Rattle.class_reader.specs.Spells.{IsClass}
 use Rattle.mt_pool.specs.Indices.{is_some_and}
 use Rattle.program_rules.specs.Names.{Name, same}
-use Rattle.program_rules.specs.Linked.{Linked, LinkedMethod, LinkedCode, HasCode}
+use Rattle.program_rules.specs.Linked.{Linked}
 use Rattle.program_rules.specs.Library.{class_among, first_of}
 use Rattle.type_laws.proofs.Tests.{same_is}
 use Rattle.type_laws.specs.Bounds.{HasBoundedCodes}
-use Rattle.machine_laws.specs.Sited.{has_semicolon, IsCounted, IsOfFiles}
+use Rattle.machine_laws.specs.Sited.{has_semicolon, IsCounted}
 use Rattle.class_link.specs.Symbols.{name_or_empty}
 use Rattle.class_link.specs.Info.{own_name}
 use Rattle.class_link.specs.Linking.{link, link_library, method_in}
@@ -30,19 +30,18 @@ use Rattle.library_laws.specs.Bounded.{AreBounded}
 use Rattle.library_laws.specs.Beside.{named, program_of}
 use Rattle.library_laws.specs.Facts.{ProgramsAreOfFiles}
 use Rattle.library_laws.proofs.Meaning.{is_table, table}
-use Rattle.library_laws.proofs.Over.{each_name}
 use Rattle.library_laws.proofs.Testing.{library_bounded}
 
 -- ---- names of class files
 
-abbrev units : List ℕ → Bool
+abbrev pub units : List ℕ → Bool
 units part = list_all (λ u. not (is_reserved u)) part
 
 units_of : (part : List ℕ) → is_field_name part ≡ true → units part ≡ true
 units_of part e =
     (and_parts (not (has_unpaired_surrogate part)) (units part) (and_parts (not (length part == 0)) _ e).1).1
 
-all_units : (parts : List (List ℕ)) → list_all is_field_name parts ≡ true → list_all units parts ≡ true
+pub all_units : (parts : List (List ℕ)) → list_all is_field_name parts ≡ true → list_all units parts ≡ true
 all_units [] e = refl
 all_units (part ∷ parts) e =
     let h = and_parts (is_field_name part) (list_all is_field_name parts) e in
@@ -64,7 +63,7 @@ onto_units u (part ∷ parts) e =
     let k = and_parts (not (is_reserved u)) (units part) h.0 in
     (k.0, ap (λ b. b && list_all units parts) k.1 ∙ h.1)
 
-no_semicolon : (n : Name) → list_all units (slice_split (λ u. u == 47) n) ≡ true → has_semicolon n ≡ false
+pub no_semicolon : (n : Name) → list_all units (slice_split (λ u. u == 47) n) ≡ true → has_semicolon n ≡ false
 no_semicolon [] e = refl
 no_semicolon (u ∷ us) e = by_unit (u == 47) refl e (no_semicolon us)
   where

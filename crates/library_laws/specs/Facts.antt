@@ -8,6 +8,7 @@ use Rattle.program_rules.specs.Outlines.{outline_of, fields_in}
 use Rattle.program_rules.specs.Programs.{Look, Rising, nodes, top_of}
 use Rattle.type_laws.specs.Soundness.{AllObject, HasLibrary}
 use Rattle.program_laws.specs.Ordered.{HasArrays}
+use Rattle.machine_laws.specs.Plain.{NamesNoAdapter}
 use Rattle.machine_laws.specs.Sited.{IsOfFiles}
 use Rattle.library_laws.specs.Beside.{AreOfFiles, AreApart, behind_others, named, program_of}
 
@@ -52,3 +53,8 @@ FilesAreNoArrays =
 -- methods and code than a class file.
 abbrev pub ProgramsAreOfFiles : Type 0
 ProgramsAreOfFiles = (classes : List Class) → All IsClass classes → IsOfFiles (program_of classes)
+
+-- Of class files that were read and the library no class names an adapter.
+abbrev pub ProgramsNameNoAdapter : Type 0
+ProgramsNameNoAdapter =
+    (classes : List Class) → All IsClass classes → NamesNoAdapter (program_of classes)

@@ -3,7 +3,7 @@
 ghost use Rattle.type_laws.specs.Soundness.{HasFaults};
 ghost use Rattle.machine_laws.specs.Consulted.{IsLibraryWhole};
 ghost use Rattle.library_laws.specs.Facts.{InEachProgram, HasLibraryIfTops, HasBareObject};
-ghost use Rattle.library_laws.specs.Facts.{ProgramsAreOfFiles};
+ghost use Rattle.library_laws.specs.Facts.{ProgramsAreOfFiles, ProgramsNameNoAdapter};
 
 /// The exceptions that the machine makes are there, below Throwable, with a message and a cause.
 #[tactic(auto, using(crate::proofs::Machine::faults))]
@@ -34,4 +34,11 @@ pub fn library_is_closed()
 #[tactic(auto, using(crate::proofs::OfFiles::are_of_files))]
 pub fn programs_are_of_files()
     ensures { ProgramsAreOfFiles }
+{}
+
+/// None of its classes names an adapter: no entry of a class file has such a name, and the name of a
+/// class in a descriptor has no semicolon. So with the adapters no class names one but its own.
+#[tactic(auto, using(crate::proofs::PlainPrograms::name_none))]
+pub fn programs_name_no_adapter()
+    ensures { ProgramsNameNoAdapter }
 {}

@@ -24,7 +24,7 @@ not_site false h = refl
 pub plain_is : (n : Name) → is_plain n ≡ true → IsPlain n
 plain_is n h = not_site (is_site_name n) h
 
-all_plain : (ns : List Name) → list_all is_plain ns ≡ true → ArePlain ns
+pub all_plain : (ns : List Name) → list_all is_plain ns ≡ true → ArePlain ns
 all_plain [] h = tt
 all_plain (n ∷ ns) h = (plain_is n (first_true (is_plain n) (list_all is_plain ns) h), all_plain ns (rest_true (is_plain n) (list_all is_plain ns) h))
 
@@ -39,7 +39,7 @@ catch_plain : (o : Option Name) → is_plain_catch o ≡ true → CatchesPlain o
 catch_plain None h = tt
 catch_plain (Some n) h = plain_is (class_behind n) h
 
-rows_plain : (rs : List LinkedRow) → list_all (λ r. is_plain_catch r.catch) rs ≡ true → RowsPlain rs
+pub rows_plain : (rs : List LinkedRow) → list_all (λ r. is_plain_catch r.catch) rs ≡ true → RowsPlain rs
 rows_plain [] h = tt
 rows_plain (r ∷ rs) h = (catch_plain r.catch (first_true (is_plain_catch r.catch) (list_all (λ r. is_plain_catch r.catch) rs) h), rows_plain rs (rest_true (is_plain_catch r.catch) (list_all (λ r. is_plain_catch r.catch) rs) h))
 

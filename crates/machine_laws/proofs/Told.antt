@@ -39,14 +39,14 @@ or_same true b false d e go h = absurd cc
 or_same false b true d e go h = refl
 or_same false b false d e go h = go h
 
-begins_as : (xs n : Name) → begins_with xs n ≡ true → has_semicolon xs ≡ true → has_semicolon n ≡ true
+pub begins_as : (xs n : Name) → begins_with xs n ≡ true → has_semicolon xs ≡ true → has_semicolon n ≡ true
 begins_as [] n b h = absurd cc
 begins_as (c ∷ xs) [] b h = absurd cc
 begins_as (c ∷ xs) (d ∷ n) b h =
     let parts = and_parts (nat_eq c d) (begins_with xs n) b in
     or_same (nat_eq c 59) (has_semicolon xs) (nat_eq d 59) (has_semicolon n) (ap (λ x. nat_eq x 59) (eqb-true c d parts.0)) (begins_as xs n parts.1) h
 
-prefix_has : has_semicolon site_prefix ≡ true
+pub prefix_has : has_semicolon site_prefix ≡ true
 prefix_has = refl
 
 -- no class has the name of an adapter

@@ -1,8 +1,9 @@
 -- No class names an adapter: a run comes to one by its site alone.
 use Rattle.std.specs.Prelude.{◌≡◌, ℕ, true, false, List, [], ◌∷◌, Option, Some, None, slice_get}
 use Rattle.program_rules.specs.Names.{Name, class_behind}
-use Rattle.program_rules.specs.Instructions.{Instruction, ClassConstant, GetStatic, PutStatic, GetField, PutField, InvokeVirtual, InvokeInterface, InvokeSpecial, InvokeStatic, New, NewReferenceArray, NewMultiArray, CheckCast, InstanceOf}
-use Rattle.program_rules.specs.Linked.{Linked, LinkedMethod, LinkedCode, LinkedRow, HasCode, parents_of}
+use Rattle.program_rules.specs.Kinds.{Kind, OfReference}
+use Rattle.program_rules.specs.Instructions.{Instruction, DynamicRef, InvokeDynamic, ClassConstant, GetStatic, PutStatic, GetField, PutField, InvokeVirtual, InvokeInterface, InvokeSpecial, InvokeStatic, New, NewReferenceArray, NewMultiArray, CheckCast, InstanceOf}
+use Rattle.program_rules.specs.Linked.{Linked, LinkedMethod, LinkedCode, LinkedRow, HasCode, Bootstrap, parents_of}
 use Rattle.program_rules.specs.Programs.{Look}
 use Rattle.program_rules.specs.Sites.{Site, is_site_name}
 use Rattle.program_rules.specs.Adapted.{IsSite}
@@ -75,6 +76,49 @@ pub record HasPlainNames (p : Look) : Type 0 where
   -- nor is the class of a site, or its interface, one
   pub owners : (own : Name) (s : Site) (x : IsSite p own s) → IsPlain x.owner
   pub interfaces : (own : Name) (s : Site) → IsSite p own s → IsPlain s.interface
+
+-- ---- before adapters are there
+
+-- The class of a kind is none of an adapter.
+abbrev pub KindPlain : Kind → Type 0
+KindPlain (OfReference n) = IsPlain (class_behind n)
+KindPlain k = Unit {0}
+
+-- So are those of all these kinds.
+abbrev pub KindsPlain : List Kind → Type 0
+KindsPlain [] = Unit {0}
+KindsPlain (k ∷ ks) = KindPlain k × KindsPlain ks
+
+-- So is that of a result, if there is one.
+abbrev pub ResultPlain : Option Kind → Type 0
+ResultPlain None = Unit {0}
+ResultPlain (Some k) = KindPlain k
+
+-- A bootstrap method names no adapter, nor do its descriptors.
+pub record BootPlain (b : Bootstrap) : Type 0 where
+  pub args : KindsPlain b.args
+  pub result : ResultPlain b.result
+  pub inst_args : KindsPlain b.inst_args
+  pub target : IsPlain (class_behind b.target.class)
+  pub target_args : KindsPlain b.target.args
+  pub target_result : ResultPlain b.target.result
+
+-- No class names an adapter. Who links class files gives this: an entry of such a name is refused,
+-- and the name of a class in a descriptor has no semicolon.
+pub record NamesNoAdapter (p : Look) : Type 0 where
+  pub parents : (n : Name) → ArePlain (parents_of (p n))
+  pub names :
+      (n : Name) (k : ℕ) (code : LinkedCode) → HasCodeOf p n k code → (at : ℕ) (i : Instruction) →
+      slice_get code.instructions at ≡ Some i → ArePlain (named_by i)
+  pub catches :
+      (n : Name) (k : ℕ) (code : LinkedCode) → HasCodeOf p n k code → RowsPlain code.rows
+  pub bootstraps :
+      (n : Name) (c : Linked) (k : ℕ) (b : Bootstrap) → p n ≡ Some c →
+      slice_get c.bootstraps k ≡ Some (Some b) → BootPlain b
+  -- nor is the interface of a site one
+  pub interfaces :
+      (n : Name) (k : ℕ) (code : LinkedCode) → HasCodeOf p n k code → (at : ℕ) (r : DynamicRef) →
+      slice_get code.instructions at ≡ Some (InvokeDynamic r) → ResultPlain r.result
 
 -- ---- the script of a test
 

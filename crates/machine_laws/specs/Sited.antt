@@ -5,9 +5,10 @@ use Rattle.program_rules.specs.Names.{Name}
 use Rattle.program_rules.specs.Linked.{Linked, LinkedMethod, LinkedCode, HasCode, Bootstrap}
 use Rattle.program_rules.specs.Programs.{Look}
 use Rattle.program_rules.specs.Library.{class_among, with_library}
-use Rattle.program_rules.specs.Adapters.{adapters_in_methods, adapters_in_class, adapters_of, adapters_by, with_adapters}
-use Rattle.program_rules.specs.Adapted.{HasAdapters}
-use Rattle.machine_laws.specs.Plain.{IsPlain}
+use Rattle.program_rules.specs.Sites.{Site, adapter}
+use Rattle.program_rules.specs.Adapters.{is_interface_at, adapters_in_methods, adapters_in_class, adapters_of, adapters_by, with_adapters}
+use Rattle.program_rules.specs.Adapted.{IsSite, HasAdapters}
+use Rattle.machine_laws.specs.Plain.{IsPlain, HasPlainNames, NamesNoAdapter}
 use Rattle.machine_laws.specs.Whole.{are_plain_classes}
 
 -- ---- names
@@ -45,6 +46,22 @@ pub record IsOfFiles (p : Look) : Type 0 where
 -- Such a program, with the adapters that their names tell, has the adapters of all its sites.
 abbrev pub AdaptersAreTold : Type 0
 AdaptersAreTold = (p : Look) → IsOfFiles p → HasAdapters (with_adapters p)
+
+-- And where no class names an adapter, no class names one then but an adapter its own.
+abbrev pub AdaptedHavePlainNames : Type 0
+AdaptedHavePlainNames =
+    (p : Look) → IsOfFiles p → NamesNoAdapter p → HasPlainNames (with_adapters p)
+
+-- A class is the adapter of a site of the program.
+pub record IsAdapterOf (p : Look) (own : Name) (c : Linked) : Type 0 where
+  pub site : Site
+  pub is : IsSite p own site
+  pub same : c ≡ adapter own (is_interface_at p site.interface) site
+
+-- What is told is the adapter of a site, and of no other name.
+abbrev pub ToldAreOfSites : Type 0
+ToldAreOfSites =
+    (p : Look) (n : Name) (c : Linked) → adapters_by p n ≡ Some c → IsAdapterOf p n c
 
 -- What is told so is of the library.
 abbrev pub ToldAreOfLibrary : Type 0

@@ -1,18 +1,19 @@
 -- What an adapter names has the kinds of its descriptors.
-use Rattle.std.proofs.Common.{◌≡◌, ◌∙◌, refl, sym, ap, subst, ℕ, zero, suc, ◌+◌, ◌++◌, ◌||◌, Bool, true, false, nat_eq, List, [], ◌∷◌, length, Option, Some, None, ⊎_elim}
+use Rattle.std.proofs.Common.{◌≡◌, ◌∙◌, refl, sym, ap, subst, ℕ, zero, suc, ◌+◌, ◌++◌, ◌||◌, Bool, true, false, nat_eq, List, [], ◌∷◌, length, Option, Some, None}
 use Rattle.std.specs.Prelude.{if◌then◌else◌, drop, slice_get}
 use Rattle.std.specs.List.{AllByRecursion}
 use Rattle.program_rules.specs.Names.{Name, same, object_name, is_array_name}
 use Rattle.program_rules.specs.Kinds.{Kind, OfBoolean, OfByte, OfChar, OfShort, OfInt, OfLong, OfReference, descriptor_in}
 use Rattle.program_rules.specs.Instructions.{Instruction, DynamicRef, InvokeDynamic, CheckCast, New, Dup}
-use Rattle.program_rules.specs.Linked.{Linked, LinkedField, LinkedMethod, LinkedCode, LinkedBody, HasCode, IsNative, NoBody, Bootstrap, code_in}
+use Rattle.program_rules.specs.Linked.{Linked, LinkedField, LinkedMethod, LinkedCode, HasCode, Bootstrap}
 use Rattle.program_rules.specs.Programs.{Look}
-use Rattle.program_rules.specs.Library.{class_among, first_of}
-use Rattle.program_rules.specs.Sites.{Site, is_site_name, is_dynamic, site_name, site_of, site_by, site_given, box_name, boxes, unboxes, casts_to, unboxes_from, converts_kind, converts_result, words_of_kind, loads_kind, joined, arguments_code, captured_code, captured_fields, taken_kinds, given_kind, is_making, calls_target, starts_code, returns_kind, code_of_parts, code_with, adapter_code, code_or_none, adapter_method, adapter}
-use Rattle.program_rules.specs.Adapters.{is_interface_at, adapter_if, adapters_in_code, adapters_in_body, adapters_in_methods, adapters_in_class, owner_told, adapter_told, adapters_by, with_adapters}
+use Rattle.program_rules.specs.Library.{first_of}
+use Rattle.program_rules.specs.Sites.{Site, site_of, site_by, site_given, box_name, unboxes, converts_kind, converts_result, words_of_kind, loads_kind, joined, arguments_code, captured_code, captured_fields, taken_kinds, given_kind, is_making, calls_target, starts_code, returns_kind, code_of_parts, code_with, adapter_code, code_or_none, adapter_method, adapter}
+use Rattle.program_rules.specs.Adapters.{is_interface_at, adapters_by, with_adapters}
 use Rattle.type_laws.specs.Soundness.{Meanings, MethodMeant, AllStated, RefMeant, BodyFits}
-use Rattle.machine_laws.proofs.Sited.{Class, In, among_in, step_case, dynamic_is, one_method}
-use Rattle.machine_laws.proofs.Distinct.{in_either}
+use Rattle.program_rules.specs.Adapted.{IsSite}
+use Rattle.machine_laws.proofs.Sited.{one_method}
+use Rattle.machine_laws.proofs.Sources.{told_site}
 use Rattle.program_laws.specs.Adapted.{IsBootMeant, KindsAreMeant, MeansBoxes, AdaptedIsLinked}
 
 all_joined : {X : Type 0} (P : X → Type 0) (xs ys : List X) → AllByRecursion P xs → AllByRecursion P ys → AllByRecursion P (xs ++ ys)
@@ -23,10 +24,6 @@ item_of : {X : Type 0} (P : X → Type 0) (xs : List X) (k : ℕ) (x : X) → Al
 item_of P [] k x h e = absurd cc
 item_of P (y ∷ xs) zero x h e = (let one : y ≡ x = cc in subst P one h.0)
 item_of P (y ∷ xs) (suc k) x h e = item_of P xs k x h.1 e
-
-from_items : {X : Type 0} (P : X → Type 0) (xs : List X) → ((k : ℕ) (x : X) → slice_get xs k ≡ Some x → P x) → AllByRecursion P xs
-from_items P [] h = tt
-from_items P (x ∷ xs) h = (h zero x refl, from_items P xs (λ k y e. h (suc k) y e))
 
 module _ (d : Meanings) (means : MeansBoxes d) where
   abbrev AllMeant : List Instruction → Type 0
@@ -243,62 +240,17 @@ module _ (d : Meanings) (means : MeansBoxes d) where
     pub same_class : c ≡ adapter own is_interface site
     pub meant : IsSiteMeant site
 
-  module _ (p : Look) (class : Name) (bs : List (Option Bootstrap)) (boots : (k : ℕ) (b : Bootstrap) → slice_get bs k ≡ Some (Some b) → IsBootMeant d b) where
-    if_case : (o : Option Site) (k j : ℕ) (rest : List Class) (x : Class) → ((s : Site) → o ≡ Some s → IsSiteMeant s) → (In x rest → IsMeantAdapter x.1) → In x (adapter_if p (site_name class k j) o ++ rest) → IsMeantAdapter x.1
-    if_case None k j rest x h go is_in = go is_in
-    if_case (Some s) k j rest x h go is_in =
-        ⊎_elim
-        (λ e. record { own = site_name class k j; is_interface = is_interface_at p s.interface; site = s; same_class = ap (λ (z : Class). z.1) (sym e); meant = h s refl })
-        go is_in
-
-    in_code : (k j : ℕ) (is : List Instruction) (x : Class) → AllMeant is → In x (adapters_in_code p class bs k j is) → IsMeantAdapter x.1
-    in_code k j [] x all is_in = absurd is_in
-    in_code k j (i ∷ is) x all is_in = by_kind (is_dynamic i) refl (in_code k j is x all.1) (in_code k (suc j) is x all.1)
-      where
-        by_kind : (b : Bool) → is_dynamic i ≡ b → (In x (adapters_in_code p class bs k j is) → IsMeantAdapter x.1) → (In x (adapters_in_code p class bs k (suc j) is) → IsMeantAdapter x.1) → IsMeantAdapter x.1
-        by_kind false e here next = here (subst (In x) (step_case p class bs k j i is e) is_in)
-        by_kind true e here next =
-            let z = dynamic_is i e in
-            let stated : AllStated d z.0.args = subst (RefMeant d) z.1 all.0 in
-            if_case (site_of class bs z.0) k j (adapters_in_code p class bs k (suc j) is) x (site_meant class bs boots z.0 stated) next
-            (subst (λ y. In x (adapters_in_code p class bs k j (y ∷ is))) z.1 is_in)
-
-    abbrev BodyMeant : Option LinkedCode → Type 0
-    BodyMeant None = Unit {0}
-    BodyMeant (Some code) = AllMeant code.instructions
-
-    body_of : (b : LinkedBody) → ((code : LinkedCode) → b ≡ HasCode code → AllMeant code.instructions) → BodyMeant (code_in b)
-    body_of (HasCode code) h = h code refl
-    body_of (IsNative meaning) h = tt
-    body_of NoBody h = tt
-
-    in_body : (k : ℕ) (o : Option LinkedCode) (x : Class) → BodyMeant o → In x (adapters_in_body p class bs k o) → IsMeantAdapter x.1
-    in_body k None x h is_in = absurd is_in
-    in_body k (Some code) x h is_in = in_code k 0 code.instructions x h is_in
-
-    in_methods : (k : ℕ) (ms : List LinkedMethod) (x : Class) → ((j : ℕ) (m : LinkedMethod) (code : LinkedCode) → slice_get ms j ≡ Some m → m.body ≡ HasCode code → AllMeant code.instructions) → In x (adapters_in_methods p class bs k ms) → IsMeantAdapter x.1
-    in_methods k [] x h is_in = absurd is_in
-    in_methods k (m ∷ ms) x h is_in =
-        ⊎_elim
-        (λ l. in_body k (code_in m.body) x (body_of m.body (λ code e. h zero m code refl e)) l)
-        (λ r. in_methods (suc k) ms x (λ j y code e f. h (suc j) y code e f) r)
-        (in_either x (adapters_in_body p class bs k (code_in m.body)) (adapters_in_methods p class bs (suc k) ms) is_in)
-
   module _ (p : Look) (l : KindsAreMeant p d) where
-    told_case : (n owner : Name) (o : Option Linked) (a : Linked) → p owner ≡ o → class_among (adapters_in_class p owner o) n ≡ Some a → IsMeantAdapter a
-    told_case n owner None a has e = absurd cc
-    told_case n owner (Some c) a has e =
-        let made = adapters_in_methods p owner c.bootstraps 0 c.methods in
-        in_methods p owner c.bootstraps (λ k b f. l.bootstrap owner c k b has f) 0 c.methods (n, a)
-        (λ j m code get body. from_items (RefMeant d) code.instructions (λ at i stands. l.reference owner c j m code at i has get body stands))
-        (among_in n a made e)
-
-    name_case : (b : Bool) (n : Name) (a : Linked) → (if b then adapter_told p (owner_told n) n else None) ≡ Some a → IsMeantAdapter a
-    name_case true n a e = told_case n (owner_told n) (p (owner_told n)) a refl e
-    name_case false n a e = absurd cc
+    of_site : (own : Name) (s : Site) (x : IsSite p own s) → IsSiteMeant s
+    of_site own s x =
+        site_meant x.owner x.class.bootstraps (λ k b f. l.bootstrap x.owner x.class k b x.has_class f) x.dynamic
+        (l.reference x.owner x.class x.method x.member x.code x.at (InvokeDynamic x.dynamic) x.has_class x.has_method x.has_code x.has_dynamic)
+        s x.means
 
     are_meant : (n : Name) (a : Linked) → adapters_by p n ≡ Some a → IsMeantAdapter a
-    are_meant n a e = name_case (is_site_name n) n a e
+    are_meant n a e =
+        let x = told_site p n a e in
+        record { own = n; is_interface = is_interface_at p x.site.interface; site = x.site; same_class = x.same; meant = of_site n x.site x.is }
 
     -- a class is the program's, or an adapter
     class_case : {A : Type 0} (n : Name) (c : Linked) (o : Option Linked) → p n ≡ o → first_of o (adapters_by p n) ≡ Some c → (p n ≡ Some c → A) → (IsMeantAdapter c → A) → A
