@@ -22,7 +22,7 @@ use Rattle.library_laws.proofs.LinkingArrays.{plain_descriptor, not_array}
 -- ---- one kind
 
 -- a kind with this descriptor
-abbrev HasText : List _ → plain.Kind → Type 0
+abbrev HasText : Name → plain.Kind → Type 0
 HasText text k = descriptor_in (kind_of k) ≡ text
 
 pub some_is : {A : Type 0} (P : A → Type 0) (x y : A) → Some x ≡ Some y → P x → P y

@@ -8,6 +8,7 @@ use Rattle.program_rules.specs.Instructions.{Instruction, CheckCast, New, Dup}
 use Rattle.program_rules.specs.Linked.{Bootstrap}
 use Rattle.program_rules.specs.Sites.{Site, box_name, unboxes, converts_kind, converts_result, words_of_kind, loads_kind, joined, arguments_code, captured_code, is_on_object, taken_kinds, given_kind, is_making, calls_target, starts_code, returns_kind, code_of_parts, code_with, adapter_code, code_or_none, adapter}
 use Rattle.machine_laws.specs.Plain.{IsPlain, ArePlain, named_by, IsOwn, AreOwn, KindPlain, KindsPlain, ResultPlain, BootPlain}
+use Rattle.machine_laws.proofs.Tested.{plain_own}
 
 all_joined : {X : Type 0} (P : X → Type 0) (xs ys : List X) → AllByRecursion P xs → AllByRecursion P ys → AllByRecursion P (xs ++ ys)
 all_joined P [] ys h k = k
@@ -17,13 +18,6 @@ pub item_of : {X : Type 0} (P : X → Type 0) (xs : List X) (k : ℕ) (x : X) �
 item_of P [] k x h e = absurd cc
 item_of P (y ∷ xs) zero x h e = (let one : y ≡ x = cc in subst P one h.0)
 item_of P (y ∷ xs) (suc k) x h e = item_of P xs k x h.1 e
-
-pub plain_own : {own : Name} (n : Name) → IsPlain n → IsOwn own n
-plain_own n h e = absurd cc
-
-pub all_own : (own : Name) (ns : List Name) → ArePlain ns → AreOwn own ns
-all_own own [] h = tt
-all_own own (n ∷ ns) h = (plain_own n h.0, all_own own ns h.1)
 
 module _ (own : Name) where
   -- these name nothing of adapters but this one
@@ -40,7 +34,7 @@ module _ (own : Name) where
 
   casts_own : (b : Bool) (n : Name) → IsPlain (class_behind n) → AllOwn (if b then [] else CheckCast n ∷ [])
   casts_own true n h = tt
-  casts_own false n h = ((plain_own (class_behind n) h, tt), tt)
+  casts_own false n h = ((plain_own own (class_behind n) h, tt), tt)
 
   unboxes_own : (b : Bool) (k : Kind) → IsOwn own (class_behind (box_name k)) → CodeOwn (if b then Some (CheckCast (box_name k) ∷ unboxes k ∷ []) else None)
   unboxes_own true k h = ((h, tt), ((h, tt), tt))
@@ -52,48 +46,48 @@ module _ (own : Name) where
 
   converts_own : (j k : Kind) → KindPlain j → KindPlain k → CodeOwn (converts_kind j k)
   converts_own (OfReference a) (OfReference b) h g = casts_own (same a b || same b object_name) b g
-  converts_own (OfReference a) OfBoolean h g = unboxes_own (same a (box_name OfBoolean)) OfBoolean (plain_own (box_name OfBoolean) refl)
-  converts_own (OfReference a) OfByte h g = unboxes_own (same a (box_name OfByte)) OfByte (plain_own (box_name OfByte) refl)
-  converts_own (OfReference a) OfChar h g = unboxes_own (same a (box_name OfChar)) OfChar (plain_own (box_name OfChar) refl)
-  converts_own (OfReference a) OfShort h g = unboxes_own (same a (box_name OfShort)) OfShort (plain_own (box_name OfShort) refl)
-  converts_own (OfReference a) OfInt h g = unboxes_own (same a (box_name OfInt)) OfInt (plain_own (box_name OfInt) refl)
-  converts_own (OfReference a) OfLong h g = unboxes_own (same a (box_name OfLong)) OfLong (plain_own (box_name OfLong) refl)
-  converts_own OfBoolean (OfReference b) h g = ((plain_own (box_name OfBoolean) refl, tt), tt)
+  converts_own (OfReference a) OfBoolean h g = unboxes_own (same a (box_name OfBoolean)) OfBoolean (plain_own own (box_name OfBoolean) refl)
+  converts_own (OfReference a) OfByte h g = unboxes_own (same a (box_name OfByte)) OfByte (plain_own own (box_name OfByte) refl)
+  converts_own (OfReference a) OfChar h g = unboxes_own (same a (box_name OfChar)) OfChar (plain_own own (box_name OfChar) refl)
+  converts_own (OfReference a) OfShort h g = unboxes_own (same a (box_name OfShort)) OfShort (plain_own own (box_name OfShort) refl)
+  converts_own (OfReference a) OfInt h g = unboxes_own (same a (box_name OfInt)) OfInt (plain_own own (box_name OfInt) refl)
+  converts_own (OfReference a) OfLong h g = unboxes_own (same a (box_name OfLong)) OfLong (plain_own own (box_name OfLong) refl)
+  converts_own OfBoolean (OfReference b) h g = ((plain_own own (box_name OfBoolean) refl, tt), tt)
   converts_own OfBoolean OfBoolean h g = none_needed (same (descriptor_in OfBoolean) (descriptor_in OfBoolean))
   converts_own OfBoolean OfByte h g = none_needed (same (descriptor_in OfBoolean) (descriptor_in OfByte))
   converts_own OfBoolean OfChar h g = none_needed (same (descriptor_in OfBoolean) (descriptor_in OfChar))
   converts_own OfBoolean OfShort h g = none_needed (same (descriptor_in OfBoolean) (descriptor_in OfShort))
   converts_own OfBoolean OfInt h g = none_needed (same (descriptor_in OfBoolean) (descriptor_in OfInt))
   converts_own OfBoolean OfLong h g = none_needed (same (descriptor_in OfBoolean) (descriptor_in OfLong))
-  converts_own OfByte (OfReference b) h g = ((plain_own (box_name OfByte) refl, tt), tt)
+  converts_own OfByte (OfReference b) h g = ((plain_own own (box_name OfByte) refl, tt), tt)
   converts_own OfByte OfBoolean h g = none_needed (same (descriptor_in OfByte) (descriptor_in OfBoolean))
   converts_own OfByte OfByte h g = none_needed (same (descriptor_in OfByte) (descriptor_in OfByte))
   converts_own OfByte OfChar h g = none_needed (same (descriptor_in OfByte) (descriptor_in OfChar))
   converts_own OfByte OfShort h g = none_needed (same (descriptor_in OfByte) (descriptor_in OfShort))
   converts_own OfByte OfInt h g = none_needed (same (descriptor_in OfByte) (descriptor_in OfInt))
   converts_own OfByte OfLong h g = none_needed (same (descriptor_in OfByte) (descriptor_in OfLong))
-  converts_own OfChar (OfReference b) h g = ((plain_own (box_name OfChar) refl, tt), tt)
+  converts_own OfChar (OfReference b) h g = ((plain_own own (box_name OfChar) refl, tt), tt)
   converts_own OfChar OfBoolean h g = none_needed (same (descriptor_in OfChar) (descriptor_in OfBoolean))
   converts_own OfChar OfByte h g = none_needed (same (descriptor_in OfChar) (descriptor_in OfByte))
   converts_own OfChar OfChar h g = none_needed (same (descriptor_in OfChar) (descriptor_in OfChar))
   converts_own OfChar OfShort h g = none_needed (same (descriptor_in OfChar) (descriptor_in OfShort))
   converts_own OfChar OfInt h g = none_needed (same (descriptor_in OfChar) (descriptor_in OfInt))
   converts_own OfChar OfLong h g = none_needed (same (descriptor_in OfChar) (descriptor_in OfLong))
-  converts_own OfShort (OfReference b) h g = ((plain_own (box_name OfShort) refl, tt), tt)
+  converts_own OfShort (OfReference b) h g = ((plain_own own (box_name OfShort) refl, tt), tt)
   converts_own OfShort OfBoolean h g = none_needed (same (descriptor_in OfShort) (descriptor_in OfBoolean))
   converts_own OfShort OfByte h g = none_needed (same (descriptor_in OfShort) (descriptor_in OfByte))
   converts_own OfShort OfChar h g = none_needed (same (descriptor_in OfShort) (descriptor_in OfChar))
   converts_own OfShort OfShort h g = none_needed (same (descriptor_in OfShort) (descriptor_in OfShort))
   converts_own OfShort OfInt h g = none_needed (same (descriptor_in OfShort) (descriptor_in OfInt))
   converts_own OfShort OfLong h g = none_needed (same (descriptor_in OfShort) (descriptor_in OfLong))
-  converts_own OfInt (OfReference b) h g = ((plain_own (box_name OfInt) refl, tt), tt)
+  converts_own OfInt (OfReference b) h g = ((plain_own own (box_name OfInt) refl, tt), tt)
   converts_own OfInt OfBoolean h g = none_needed (same (descriptor_in OfInt) (descriptor_in OfBoolean))
   converts_own OfInt OfByte h g = none_needed (same (descriptor_in OfInt) (descriptor_in OfByte))
   converts_own OfInt OfChar h g = none_needed (same (descriptor_in OfInt) (descriptor_in OfChar))
   converts_own OfInt OfShort h g = none_needed (same (descriptor_in OfInt) (descriptor_in OfShort))
   converts_own OfInt OfInt h g = none_needed (same (descriptor_in OfInt) (descriptor_in OfInt))
   converts_own OfInt OfLong h g = none_needed (same (descriptor_in OfInt) (descriptor_in OfLong))
-  converts_own OfLong (OfReference b) h g = ((plain_own (box_name OfLong) refl, tt), tt)
+  converts_own OfLong (OfReference b) h g = ((plain_own own (box_name OfLong) refl, tt), tt)
   converts_own OfLong OfBoolean h g = none_needed (same (descriptor_in OfLong) (descriptor_in OfBoolean))
   converts_own OfLong OfByte h g = none_needed (same (descriptor_in OfLong) (descriptor_in OfByte))
   converts_own OfLong OfChar h g = none_needed (same (descriptor_in OfLong) (descriptor_in OfChar))
@@ -156,11 +150,11 @@ module _ (own : Name) where
 
   calls_own : (b : Bootstrap) → IsPlain (class_behind b.target.class) → AreOwn own (named_by (calls_target b))
   calls_own b h =
-      let one : AreOwn own (class_behind b.target.class ∷ []) = (plain_own (class_behind b.target.class) h, tt) in
+      let one : AreOwn own (class_behind b.target.class ∷ []) = (plain_own own (class_behind b.target.class) h, tt) in
       either (nat_eq b.kind 6) _ _ one (either (is_making b.kind) _ _ one (either (nat_eq b.kind 9 || b.target.interface) _ _ one one))
 
   starts_own : (b : Bool) (n : Name) → IsPlain (class_behind n) → AllOwn (if b then New n ∷ Dup ∷ [] else [])
-  starts_own true n h = ((plain_own (class_behind n) h, tt), (tt, tt))
+  starts_own true n h = ((plain_own own (class_behind n) h, tt), (tt, tt))
   starts_own false n h = tt
 
   returns_own : (o : Option Kind) → AreOwn own (named_by (returns_kind o))

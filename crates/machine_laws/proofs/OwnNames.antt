@@ -15,7 +15,8 @@ use Rattle.machine_laws.specs.Sited.{IsOfFiles, AdaptedHavePlainNames}
 use Rattle.machine_laws.proofs.Sited.{Class, one_method, of_adapter}
 use Rattle.machine_laws.proofs.Told.{begins_as, prefix_has}
 use Rattle.machine_laws.proofs.Sources.{told_site}
-use Rattle.machine_laws.proofs.OwnCode.{item_of, all_own, AllOwn, code_own}
+use Rattle.machine_laws.proofs.Tested.{all_own}
+use Rattle.machine_laws.proofs.OwnCode.{item_of, AllOwn, code_own}
 
 -- ---- sites
 

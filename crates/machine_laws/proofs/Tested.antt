@@ -28,10 +28,10 @@ pub all_plain : (ns : List Name) → list_all is_plain ns ≡ true → ArePlain 
 all_plain [] h = tt
 all_plain (n ∷ ns) h = (plain_is n (first_true (is_plain n) (list_all is_plain ns) h), all_plain ns (rest_true (is_plain n) (list_all is_plain ns) h))
 
-plain_own : (class n : Name) → IsPlain n → IsOwn class n
+pub plain_own : (class n : Name) → IsPlain n → IsOwn class n
 plain_own class n h e = cc
 
-all_own : (class : Name) (ns : List Name) → ArePlain ns → AreOwn class ns
+pub all_own : (class : Name) (ns : List Name) → ArePlain ns → AreOwn class ns
 all_own class [] h = tt
 all_own class (n ∷ ns) h = (plain_own class n h.0, all_own class ns h.1)
 
