@@ -9,6 +9,7 @@ use Rattle.program_rules.specs.Sites.{Site, adapter}
 use Rattle.program_rules.specs.Adapters.{is_interface_at, adapters_in_methods, adapters_in_class, adapters_of, adapters_by, with_adapters}
 use Rattle.program_rules.specs.Adapted.{IsSite, HasAdapters}
 use Rattle.machine_laws.specs.Plain.{IsPlain, HasPlainNames, NamesNoAdapter}
+use Rattle.machine_laws.specs.Consulted.{IsLibraryWhole, IsWhole}
 use Rattle.machine_laws.specs.Whole.{are_plain_classes}
 
 -- ---- names
@@ -51,6 +52,11 @@ AdaptersAreTold = (p : Look) → IsOfFiles p → HasAdapters (with_adapters p)
 abbrev pub AdaptedHavePlainNames : Type 0
 AdaptedHavePlainNames =
     (p : Look) → IsOfFiles p → NamesNoAdapter p → HasPlainNames (with_adapters p)
+
+-- So all that the frame law asks is so of the program with its adapters.
+abbrev pub AdaptedAreWhole : Type 0
+AdaptedAreWhole =
+    (p : Look) → IsLibraryWhole p → IsOfFiles p → NamesNoAdapter p → IsWhole (with_adapters p)
 
 -- A class is the adapter of a site of the program.
 pub record IsAdapterOf (p : Look) (own : Name) (c : Linked) : Type 0 where
