@@ -34,6 +34,7 @@ mod OfFiles
 mod PlainEntries
 mod PlainCode
 mod PlainPrograms
+mod WholePrograms
 mod Keeping
 mod Hosting
 pub mod Meaning

@@ -8,6 +8,8 @@ use Rattle.program_rules.specs.Outlines.{outline_of, fields_in}
 use Rattle.program_rules.specs.Programs.{Look, Rising, nodes, top_of}
 use Rattle.type_laws.specs.Soundness.{AllObject, HasLibrary}
 use Rattle.program_laws.specs.Ordered.{HasArrays}
+use Rattle.program_rules.specs.Adapters.{with_adapters}
+use Rattle.machine_laws.specs.Consulted.{IsWhole}
 use Rattle.machine_laws.specs.Plain.{NamesNoAdapter}
 use Rattle.machine_laws.specs.Sited.{IsOfFiles}
 use Rattle.library_laws.specs.Beside.{AreOfFiles, AreApart, behind_others, named, program_of}
@@ -58,3 +60,10 @@ ProgramsAreOfFiles = (classes : List Class) → All IsClass classes → IsOfFile
 abbrev pub ProgramsNameNoAdapter : Type 0
 ProgramsNameNoAdapter =
     (classes : List Class) → All IsClass classes → NamesNoAdapter (program_of classes)
+
+-- So with the adapters of its sites such a program is as the frame law asks, where none of the class
+-- files has the name of a class of the library.
+abbrev pub AdaptedProgramsAreWhole : Type 0
+AdaptedProgramsAreWhole =
+    (classes : List Class) → All IsClass classes → AreApart (class_among (map named classes)) →
+    IsWhole (with_adapters (program_of classes))

@@ -4,6 +4,7 @@ ghost use Rattle.type_laws.specs.Soundness.{HasFaults};
 ghost use Rattle.machine_laws.specs.Consulted.{IsLibraryWhole};
 ghost use Rattle.library_laws.specs.Facts.{InEachProgram, HasLibraryIfTops, HasBareObject};
 ghost use Rattle.library_laws.specs.Facts.{ProgramsAreOfFiles, ProgramsNameNoAdapter};
+ghost use Rattle.library_laws.specs.Facts.{AdaptedProgramsAreWhole};
 
 /// The exceptions that the machine makes are there, below Throwable, with a message and a cause.
 #[tactic(auto, using(crate::proofs::Machine::faults))]
@@ -41,4 +42,10 @@ pub fn programs_are_of_files()
 #[tactic(auto, using(crate::proofs::PlainPrograms::name_none))]
 pub fn programs_name_no_adapter()
     ensures { ProgramsNameNoAdapter }
+{}
+
+/// With the adapters of its sites the program is as the frame law asks.
+#[tactic(auto, using(crate::proofs::WholePrograms::adapted_are_whole))]
+pub fn adapted_programs_are_whole()
+    ensures { AdaptedProgramsAreWhole }
 {}
