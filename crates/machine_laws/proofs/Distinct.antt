@@ -167,7 +167,7 @@ module _ (p : Look) (class : Name) (bs : List (Option Bootstrap)) where
   named_in_body : (k : ℕ) (o : Option LinkedCode) (x : Class) → In x (adapters_in_body p class bs k o) → IsOfMethod k o x
   named_in_body k None x is_in = absurd is_in
   named_in_body k (Some code) x is_in =
-      let n = named_in_code k 0 code.instructions x is_in in (n.0, λ few. omega (arith, few, n.2), n.3)
+      let n = named_in_code k 0 code.instructions x is_in in (n.0, (λ few. omega (arith, few, n.2)), n.3)
 
   distinct_in_body : (k : ℕ) (o : Option LinkedCode) → k < 2 ^ 16 → IsFew o → AreDistinct (adapters_in_body p class bs k o)
   distinct_in_body k None small few = tt

@@ -37,6 +37,10 @@ behind_same : (n : Name) → is_array_name n ≡ false → class_behind n ≡ n
 behind_same n e = ap (λ (b : Bool). if b then element_class (element_of n) else n) e
 
 module _ (class : Name) (bs : List (Option Bootstrap)) (boots : (k : ℕ) (b : Bootstrap) → slice_get bs k ≡ Some (Some b) → BootPlain b) (r : DynamicRef) (gives : ResultPlain r.result) where
+  -- the site with this bootstrap method and this interface
+  abbrev the_site : Bootstrap → Name → Site
+  the_site b n = record { name = r.name; captured = r.args; interface = n; boot = b }
+
   given_case : (b : Bootstrap) → BootPlain b → (s : Site) (k : Option Kind) → ResultPlain k → site_given class r b k ≡ Some s → SitePlain s
   given_case b h s None g e = absurd cc
   given_case b h s (Some OfBoolean) g e = absurd cc
@@ -47,7 +51,7 @@ module _ (class : Name) (bs : List (Option Bootstrap)) (boots : (k : ℕ) (b : B
   given_case b h s (Some OfLong) g e = absurd cc
   given_case b h s (Some (OfReference n)) g e =
       let formed = not_if (is_array_name n) _ s e in
-      let is : record { name = r.name; captured = r.args; interface = n; boot = b } ≡ s = some_if _ (record { name = r.name; captured = r.args; interface = n; boot = b }) s formed.1 in
+      let is : the_site b n ≡ s = some_if _ (the_site b n) s formed.1 in
       subst SitePlain is (record { interface = subst IsPlain (behind_same n formed.0) g; boot = h })
 
   by_case : (o : Option (Option Bootstrap)) (s : Site) → ((b : Bootstrap) → o ≡ Some (Some b) → BootPlain b) → site_by class r o ≡ Some s → SitePlain s
@@ -132,11 +136,15 @@ module _ (p : Look) (files : IsOfFiles p) (names : NamesNoAdapter p) where
 
       names_own : (at : ℕ) (i : Instruction) → slice_get code.instructions at ≡ Some i → AreOwn n (named_by i)
       names_own at i e =
-          let list : code_or_none (adapter_code n a.site) ≡ code.instructions = (let b = the_body in cc) in
+          let body : HasCode (record { max_stack = _; max_locals = _; instructions = code_or_none (adapter_code n a.site); rows = []; lines = []; frames = [] }) ≡ HasCode code = the_body in
+          let list : code_or_none (adapter_code n a.site) ≡ code.instructions = cc in
           item_of (λ z. AreOwn n (named_by z)) code.instructions at i (subst (AllOwn n) list (code_own n a.site a.own a.plain.boot)) e
 
       rows_none : RowsPlain code.rows
-      rows_none = (let rows : [] ≡ code.rows = (let b = the_body in cc) in subst RowsPlain rows tt)
+      rows_none =
+          let body : HasCode (record { max_stack = _; max_locals = _; instructions = code_or_none (adapter_code n a.site); rows = []; lines = []; frames = [] }) ≡ HasCode code = the_body in
+          let rows : [] ≡ code.rows = cc in
+          subst RowsPlain rows tt
 
   -- ---- sites
 

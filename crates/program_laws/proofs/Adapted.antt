@@ -8,7 +8,7 @@ use Rattle.program_rules.specs.Instructions.{Instruction, DynamicRef, InvokeDyna
 use Rattle.program_rules.specs.Linked.{Linked, LinkedField, LinkedMethod, LinkedCode, HasCode, Bootstrap}
 use Rattle.program_rules.specs.Programs.{Look}
 use Rattle.program_rules.specs.Library.{first_of}
-use Rattle.program_rules.specs.Sites.{Site, site_of, site_by, site_given, box_name, unboxes, converts_kind, converts_result, words_of_kind, loads_kind, joined, arguments_code, captured_code, captured_fields, taken_kinds, given_kind, is_making, calls_target, starts_code, returns_kind, code_of_parts, code_with, adapter_code, code_or_none, adapter_method, adapter}
+use Rattle.program_rules.specs.Sites.{Site, site_of, site_by, site_given, box_name, unboxes, converts_kind, converts_result, words_of_kind, loads_kind, joined, arguments_code, captured_code, captured_name, captured_fields, taken_kinds, given_kind, is_making, calls_target, starts_code, returns_kind, code_of_parts, code_with, adapter_code, code_or_none, adapter_method, adapter}
 use Rattle.program_rules.specs.Adapters.{is_interface_at, adapters_by, with_adapters}
 use Rattle.type_laws.specs.Soundness.{Meanings, MethodMeant, AllStated, RefMeant, BodyFits}
 use Rattle.program_rules.specs.Adapted.{IsSite}
@@ -209,6 +209,10 @@ module _ (d : Meanings) (means : MeansBoxes d) where
   not_if false o s e = e
 
   module _ (class : Name) (bs : List (Option Bootstrap)) (boots : (k : ℕ) (b : Bootstrap) → slice_get bs k ≡ Some (Some b) → IsBootMeant d b) (r : DynamicRef) (stated : AllStated d r.args) where
+    -- the site with this bootstrap method and this interface
+    abbrev the_site : Bootstrap → Name → Site
+    the_site b n = record { name = r.name; captured = r.args; interface = n; boot = b }
+
     given_case : (b : Bootstrap) → IsBootMeant d b → (s : Site) (k : Option Kind) → site_given class r b k ≡ Some s → IsSiteMeant s
     given_case b h s None e = absurd cc
     given_case b h s (Some OfBoolean) e = absurd cc
@@ -219,7 +223,7 @@ module _ (d : Meanings) (means : MeansBoxes d) where
     given_case b h s (Some OfLong) e = absurd cc
     given_case b h s (Some (OfReference n)) e =
         let formed = not_if (is_array_name n) _ s e in
-        let is : record { name = r.name; captured = r.args; interface = n; boot = b } ≡ s = some_if _ (record { name = r.name; captured = r.args; interface = n; boot = b }) s formed in
+        let is : the_site b n ≡ s = some_if _ (the_site b n) s formed in
         subst IsSiteMeant is (record { captured = stated; boot = h })
 
     by_case : (o : Option (Option Bootstrap)) (s : Site) → ((b : Bootstrap) → o ≡ Some (Some b) → IsBootMeant d b) → site_by class r o ≡ Some s → IsSiteMeant s
@@ -259,11 +263,14 @@ module _ (d : Meanings) (means : MeansBoxes d) where
 
   -- ---- what is asked of an adapter
 
+  -- the field of a captured value
+  abbrev captured_field : ℕ → Kind → LinkedField
+  captured_field i k = record { flags = 1; name = captured_name i; desc = descriptor_in k; kind = k; constant = None }
+
   fields_meant : (i : ℕ) (ks : List Kind) (k : ℕ) (f : LinkedField) → AllStated d ks → slice_get (captured_fields i ks) k ≡ Some f → f.kind ≡ d.field f.desc
   fields_meant i [] k f h e = absurd cc
   fields_meant i (x ∷ ks) zero f h e =
-      let first : LinkedField = record { flags = 1; name = _; desc = descriptor_in x; kind = x; constant = None } in
-      let one : first ≡ f = cc in
+      let one : captured_field i x ≡ f = cc in
       subst (λ (z : LinkedField). z.kind ≡ d.field z.desc) one h.0
   fields_meant i (x ∷ ks) (suc k) f h e = fields_meant (suc i) ks k f h.1 e
 
@@ -286,7 +293,7 @@ module _ (d : Meanings) (means : MeansBoxes d) where
 
     reference_is : (k : ℕ) (m : LinkedMethod) (code : LinkedCode) (at : ℕ) (i : Instruction) → slice_get c.methods k ≡ Some m → m.body ≡ HasCode code → slice_get code.instructions at ≡ Some i → RefMeant d i
     reference_is k m code at i e b stands =
-        let body : only.body ≡ HasCode code = ap (λ (z : LinkedMethod). z.body) (the_method k m e) ∙ b in
+        let body : HasCode (record { max_stack = _; max_locals = _; instructions = code_or_none (adapter_code a.own a.site); rows = []; lines = []; frames = [] }) ≡ HasCode code = ap (λ (z : LinkedMethod). z.body) (the_method k m e) ∙ b in
         let list : code_or_none (adapter_code a.own a.site) ≡ code.instructions = cc in
         item_of (RefMeant d) code.instructions at i (subst AllMeant list (code_meant a.own a.site a.meant)) stands
 
