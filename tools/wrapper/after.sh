@@ -45,6 +45,8 @@ code_rule() {
         V11) echo "what is returned doesn't fit the descriptor" ;;
         V12) echo "a constructor is called on what it can't be called on" ;;
         V13) echo "'new' of an array, or an array with too many dimensions or none" ;;
+        V14) echo "an 'invokedynamic' that is no plain lambda or method reference, or whose target" \
+            "doesn't take what it is given" ;;
     esac
 }
 

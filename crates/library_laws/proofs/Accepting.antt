@@ -12,6 +12,7 @@ use Rattle.program_rules.specs.Names.{Name, same}
 use Rattle.program_rules.specs.Linked.{Linked, LinkedMethod, code_in}
 use Rattle.program_rules.specs.Programs.{Look, supers}
 use Rattle.program_rules.specs.Library.{class_among, first_of}
+use Rattle.program_rules.specs.Sites.{is_site_name}
 use Rattle.type_rules.specs.References.{classes_of}
 use Rattle.type_rules.specs.Rows.{row}
 use Rattle.type_rules.specs.Rules.{body_fault, ClassAccepted}
@@ -73,27 +74,27 @@ module _ (other : Look) (files : AreOfFiles other) where
   unfolding link_library supers row utf16_chars parameters_at instruction_by basic_interfaces collection_interfaces objects texts numbers throwables errors machine_exceptions library_exceptions collections list_classes hash_classes utility_classes assertions
   rights = refl
 
-  among_case : (n : Name) (c : Linked) (o : Option Linked) → class_among table n ≡ o → first_of o (other n) ≡ Some c → c.library ≡ true → class_among table n ≡ Some c
-  among_case n c None is e l = absurd (true≢false (sym l ∙ files.each n c e))
-  among_case n c (Some d) is e l = is ∙ e
+  among_case : (n : Name) (c : Linked) (o : Option Linked) → is_site_name n ≡ false → class_among table n ≡ o → first_of o (other n) ≡ Some c → c.library ≡ true → class_among table n ≡ Some c
+  among_case n c None plain is e l = absurd (true≢false (sym l ∙ files.each n c e plain))
+  among_case n c (Some d) plain is e l = is ∙ e
 
-  right_in : (n : Name) (c : Linked) → program n ≡ Some c → c.library ≡ true → is_right program (n, c) ≡ true
-  right_in n c e l = each_class (is_right program) table n c rights (among_case n c (class_among table n) refl e l)
+  right_in : (n : Name) (c : Linked) → is_site_name n ≡ false → program n ≡ Some c → c.library ≡ true → is_right program (n, c) ≡ true
+  right_in n c plain e l = each_class (is_right program) table n c rights (among_case n c (class_among table n) plain refl e l)
 
-  accepted_over : (n : Name) (c : Linked) → program n ≡ Some c → c.library ≡ true → ClassAccepted program n
-  accepted_over n c e l =
+  accepted_over : (n : Name) (c : Linked) → is_site_name n ≡ false → program n ≡ Some c → c.library ≡ true → ClassAccepted program n
+  accepted_over n c plain e l =
       record {
         each = λ d k m f g h. let same : c ≡ d = cc in absurd (true≢false (sym l ∙ ap (λ c. c.library) same ∙ g));
-        library = λ d k m f g h. none_of _ (each_method (has_no_fault program n d) d.methods k m (right_in n d f g) h);
+        library = λ d k m f g h. none_of _ (each_method (has_no_fault program n d) d.methods k m (right_in n d plain f g) h);
       }
 
 -- ---- over the library
 
 abbrev AreAccepted : List (Name × Linked) → Type 0
-AreAccepted classes = (other : Look) → AreOfFiles other → (n : Name) (c : Linked) → with_others classes other n ≡ Some c → c.library ≡ true → ClassAccepted (with_others classes other) n
+AreAccepted classes = (other : Look) → AreOfFiles other → (n : Name) (c : Linked) → is_site_name n ≡ false → with_others classes other n ≡ Some c → c.library ≡ true → ClassAccepted (with_others classes other) n
 
-pub accepted : (other : Look) → AreOfFiles other → (n : Name) (c : Linked) → beside_library other n ≡ Some c → c.library ≡ true → ClassAccepted (beside_library other) n
-accepted = subst AreAccepted (sym is_table) (λ other files n c e l. accepted_over other files n c e l)
+pub accepted : (other : Look) → AreOfFiles other → (n : Name) (c : Linked) → is_site_name n ≡ false → beside_library other n ≡ Some c → c.library ≡ true → ClassAccepted (beside_library other) n
+accepted = subst AreAccepted (sym is_table) (λ other files n c plain e l. accepted_over other files n c plain e l)
 
 -- ---- the other way round
 
@@ -103,7 +104,7 @@ in_either_order None (Some d) apart = refl
 in_either_order (Some c) None apart = refl
 in_either_order (Some c) (Some d) apart = let no : Some d ≡ None = apart c refl in absurd cc
 
-pub accepted_behind : (other : Look) → AreOfFiles other → AreApart other → (n : Name) (c : Linked) → behind_others other n ≡ Some c → c.library ≡ true → ClassAccepted (behind_others other) n
+pub accepted_behind : (other : Look) → AreOfFiles other → AreApart other → (n : Name) (c : Linked) → is_site_name n ≡ false → behind_others other n ≡ Some c → c.library ≡ true → ClassAccepted (behind_others other) n
 accepted_behind other files apart =
     let same_program : beside_library other ≡ behind_others other = λ i n. in_either_order (other n) (class_among library_meant n) (apart.each n) i in
-    subst (λ p. (n : Name) (c : Linked) → p n ≡ Some c → c.library ≡ true → ClassAccepted p n) same_program (accepted other files)
+    subst (λ p. (n : Name) (c : Linked) → is_site_name n ≡ false → p n ≡ Some c → c.library ≡ true → ClassAccepted p n) same_program (accepted other files)

@@ -1,12 +1,13 @@
 -- The library is closed, by computing over the table.
-use Rattle.std.proofs.Common.{◌≡◌, refl, Bool, List, [], ◌∷◌}
-use Rattle.std.specs.Prelude.{true}
+use Rattle.std.proofs.Common.{◌≡◌, refl, Bool, true, false, List, [], ◌∷◌}
+use Rattle.std.specs.Prelude.{◌&&◌}
 use Rattle.std.specs.List.{list_all}
 use Rattle.std.proofs.lemmas.Bool.{and_parts}
 use Rattle.class_link.specs.Linking.{link_library}
 use Rattle.program_rules.specs.Names.{Name}
 use Rattle.program_rules.specs.Linked.{is_library}
 use Rattle.program_rules.specs.Programs.{Look, supers, is_known}
+use Rattle.program_rules.specs.Sites.{is_site_name}
 use Rattle.program_rules.specs.declared.fault.Fault.{Fault}
 use Rattle.program_rules.specs.declared.fault.Fault.TheVariants as fault
 use Rattle.program_rules.specs.Faults.{fault_name}
@@ -14,6 +15,9 @@ use Rattle.program_rules.specs.declared.making.Making.{Making}
 use Rattle.program_rules.specs.declared.making.Making.TheVariants as making
 use Rattle.program_rules.specs.Deeds.{making_name}
 use Rattle.machine_laws.specs.Consulted.{AllSeen, IsLibraryWhole}
+use Rattle.machine_laws.specs.Whole.{is_plain}
+use Rattle.machine_laws.proofs.Known.{plain_seen}
+use Rattle.machine_laws.proofs.Tested.{plain_is}
 use Rattle.lib_table.specs.Interfaces.{basic_interfaces, collection_interfaces}
 use Rattle.lib_table.specs.LangClasses.{objects, texts, numbers}
 use Rattle.lib_table.specs.Exceptions.{throwables, errors, machine_exceptions, library_exceptions}
@@ -25,20 +29,23 @@ use Rattle.library_laws.proofs.Over.{beside, over, of_library}
 
 -- ---- what stands above
 
--- All supers of a name are of the library.
+-- All supers of a name are of the library, and none is an adapter.
 abbrev has_known_supers : Look → Name → Bool
-has_known_supers p n = list_all (is_known p []) (supers p n)
+has_known_supers p n = list_all (λ m. is_known p [] m && is_plain m) (supers p n)
 
 supers_known : (other : Look) → list_all (λ x. has_known_supers (beside other) x.0) table ≡ true
 unfolding link_library supers basic_interfaces collection_interfaces objects texts numbers throwables errors machine_exceptions library_exceptions collections list_classes hash_classes utility_classes assertions
 supers_known other = refl
 
-all_seen : (p : Look) (ns : List Name) → list_all (is_known p []) ns ≡ true → AllSeen p [] ns
+all_seen : (p : Look) (ns : List Name) → list_all (λ m. is_known p [] m && is_plain m) ns ≡ true → AllSeen p [] ns
 all_seen p [] e = tt
-all_seen p (n ∷ ns) e = let h = and_parts (is_known p [] n) (list_all (is_known p []) ns) e in (h.0, all_seen p ns h.1)
+all_seen p (n ∷ ns) e =
+    let h = and_parts (is_known p [] n && is_plain n) (list_all (λ m. is_known p [] m && is_plain m) ns) e in
+    let k = and_parts (is_known p [] n) (is_plain n) h.0 in
+    (plain_seen p [] n (plain_is n k.1) k.0, all_seen p ns h.1)
 
-supers_seen : (other : Look) → AreOfFiles other → (n : Name) → is_library (beside other n) ≡ true → AllSeen (beside other) [] (supers (beside other) n)
-supers_seen other files n l = all_seen (beside other) (supers (beside other) n) (of_library other files (has_known_supers (beside other)) (supers_known other) n l)
+supers_seen : (other : Look) → AreOfFiles other → (n : Name) → is_library (beside other n) ≡ true → is_site_name n ≡ false → AllSeen (beside other) [] (supers (beside other) n)
+supers_seen other files n l plain = all_seen (beside other) (supers (beside other) n) (of_library other files (has_known_supers (beside other)) (supers_known other) n l plain)
 
 -- ---- what the machine makes
 

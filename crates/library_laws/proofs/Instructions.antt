@@ -10,7 +10,7 @@ use Rattle.class_model.specs.declared.instruction.Arg.TheVariants as arg
 use Rattle.class_model.specs.declared.instruction.Insn.{Insn}
 use Rattle.program_rules.specs.Names.{is_array_name}
 use Rattle.program_rules.specs.Instructions.{Instruction, NewMultiArray}
-use Rattle.class_link.specs.Symbols.{Symbol, IsOther, IsInteger, IsLong, IsText, IsClass, IsField, IsMethod, text_named, symbol_or_other, symbol_at}
+use Rattle.class_link.specs.Symbols.{Symbol, IsOther, IsInteger, IsLong, IsText, IsClass, IsField, IsMethod, IsDynamic, text_named, symbol_or_other, symbol_at}
 use Rattle.class_link.specs.Opcodes as op
 use Rattle.class_link.specs.Opcodes.{instruction_in}
 use Rattle.library_laws.proofs.LinkingArrays.{IsNameMeant}
@@ -58,6 +58,7 @@ class_meant pool h k = by_index (k == 0)
 array_meant : (k : ℕ) (s : Symbol) → ClassMeant s → IsNamed (op.on_class (λ class. NewMultiArray class k) s)
 array_meant k (IsClass c) h = record { meant = λ e. h.array e }
 array_meant k (IsMethod r) h = record { meant = λ e. tt }
+array_meant k (IsDynamic r) h = record { meant = λ e. tt }
 array_meant k (IsField r) h = record { meant = λ e. tt }
 array_meant k IsOther h = record { meant = λ e. tt }
 array_meant k (IsInteger z) h = record { meant = λ e. tt }

@@ -28,6 +28,7 @@ mod Machine
 mod Closed
 mod ArrayNames
 mod FileNames
+mod OfFiles
 mod Keeping
 mod Hosting
 pub mod Meaning

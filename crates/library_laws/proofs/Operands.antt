@@ -10,7 +10,7 @@ use Rattle.class_model.specs.declared.instruction.Arg.TheVariants as arg
 use Rattle.class_model.specs.declared.instruction.Insn.{Insn}
 use Rattle.program_rules.specs.Instructions.{Instruction, GetStatic, PutStatic, GetField, PutField, InvokeVirtual, InvokeInterface, InvokeSpecial, InvokeStatic, NewMultiArray, TableSwitch, LookupSwitch, Unlinked}
 use Rattle.type_laws.specs.Soundness.{MethodMeant, FieldMeant, RefMeant}
-use Rattle.class_link.specs.Symbols.{Symbol, IsOther, IsInteger, IsLong, IsText, IsClass, IsField, IsMethod, symbol_or_other, symbol_at}
+use Rattle.class_link.specs.Symbols.{Symbol, IsOther, IsInteger, IsLong, IsText, IsClass, IsField, IsMethod, IsDynamic, symbol_or_other, symbol_at}
 use Rattle.class_link.specs.Opcodes as op
 use Rattle.class_link.specs.Opcodes.{instruction_by, instruction_in}
 use Rattle.library_laws.specs.Linked.{descriptors}
@@ -116,17 +116,18 @@ module _ (asked : Instruction → Bool) where
       let puts_static : IsMeant (PutStatic r) = record { meant = λ e. h } in
       let gets : IsMeant (GetField r) = record { meant = λ e. h } in
       let puts : IsMeant (PutField r) = record { meant = λ e. h } in
-      pick (n == 0x12 || n == 0x13) un (pick (n == 0x14) un (pick (n == 0xb2) gets_static (pick (n == 0xb3) puts_static (pick (n == 0xb4) gets (pick (n == 0xb5) puts (pick (n == 0xb6) un (pick (n == 0xb7) un (pick (n == 0xb8) un (pick (n == 0xbb) un (pick (n == 0xbd) un (pick (n == 0xc0) un (pick (n == 0xc1) un un))))))))))))
+      pick (n == 0x12 || n == 0x13) un (pick (n == 0x14) un (pick (n == 0xb2) gets_static (pick (n == 0xb3) puts_static (pick (n == 0xb4) gets (pick (n == 0xb5) puts (pick (n == 0xb6) un (pick (n == 0xb7) un (pick (n == 0xb8) un (pick (n == 0xba) un (pick (n == 0xbb) un (pick (n == 0xbd) un (pick (n == 0xc0) un (pick (n == 0xc1) un un)))))))))))))
   with_symbol_meant n (IsMethod r) h =
       let virtually : IsMeant (InvokeVirtual r) = record { meant = λ e. h } in
       let specially : IsMeant (InvokeSpecial r) = record { meant = λ e. h } in
       let statically : IsMeant (InvokeStatic r) = record { meant = λ e. h } in
-      pick (n == 0x12 || n == 0x13) un (pick (n == 0x14) un (pick (n == 0xb2) un (pick (n == 0xb3) un (pick (n == 0xb4) un (pick (n == 0xb5) un (pick (n == 0xb6) virtually (pick (n == 0xb7) specially (pick (n == 0xb8) statically (pick (n == 0xbb) un (pick (n == 0xbd) un (pick (n == 0xc0) un (pick (n == 0xc1) un un))))))))))))
+      pick (n == 0x12 || n == 0x13) un (pick (n == 0x14) un (pick (n == 0xb2) un (pick (n == 0xb3) un (pick (n == 0xb4) un (pick (n == 0xb5) un (pick (n == 0xb6) virtually (pick (n == 0xb7) specially (pick (n == 0xb8) statically (pick (n == 0xba) un (pick (n == 0xbb) un (pick (n == 0xbd) un (pick (n == 0xc0) un (pick (n == 0xc1) un un)))))))))))))
   with_symbol_meant n IsOther h = free (op.with_symbol n IsOther) (let e : is_free (op.with_symbol n IsOther) ≡ true = grind (arith) in e)
   with_symbol_meant n (IsInteger z) h = free (op.with_symbol n (IsInteger z)) (let e : is_free (op.with_symbol n (IsInteger z)) ≡ true = grind (arith) in e)
   with_symbol_meant n (IsLong z) h = free (op.with_symbol n (IsLong z)) (let e : is_free (op.with_symbol n (IsLong z)) ≡ true = grind (arith) in e)
   with_symbol_meant n (IsText t) h = free (op.with_symbol n (IsText t)) (let e : is_free (op.with_symbol n (IsText t)) ≡ true = grind (arith) in e)
   with_symbol_meant n (IsClass c) h = free (op.with_symbol n (IsClass c)) (let e : is_free (op.with_symbol n (IsClass c)) ≡ true = grind (arith) in e)
+  with_symbol_meant n (IsDynamic r) h = free (op.with_symbol n (IsDynamic r)) (let e : is_free (op.with_symbol n (IsDynamic r)) ≡ true = grind (arith) in e)
 
   interface_meant : (s : Symbol) → MemberMeant s → IsMeant (op.on_method InvokeInterface s)
   interface_meant (IsMethod r) h = record { meant = λ e. h }
@@ -136,6 +137,7 @@ module _ (asked : Instruction → Bool) where
   interface_meant (IsLong z) h = un
   interface_meant (IsText t) h = un
   interface_meant (IsClass c) h = un
+  interface_meant (IsDynamic r) h = un
 
   pick_if : {i j : Instruction} → (b : Bool) → (b ≡ true → IsMeant i) → IsMeant j → IsMeant (if b then i else j)
   pick_if true f y = f refl

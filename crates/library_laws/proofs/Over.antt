@@ -8,6 +8,7 @@ use Rattle.program_rules.specs.Names.{Name, same}
 use Rattle.program_rules.specs.Linked.{Linked, is_library}
 use Rattle.program_rules.specs.Programs.{Look}
 use Rattle.program_rules.specs.Library.{class_among, first_of}
+use Rattle.program_rules.specs.Sites.{is_site_name}
 use Rattle.type_laws.proofs.Tests.{same_is}
 use Rattle.lib_table.specs.Library.{library_meant}
 use Rattle.library_laws.specs.Beside.{AreOfFiles, AreApart, with_others, beside_library, behind_others}
@@ -52,16 +53,16 @@ any_of test b (n ∷ ns) e f =
 
 -- ---- a class of the library is of the table
 
-from_file : (other : Look) → AreOfFiles other → (n : Name) (o : Option Linked) → other n ≡ o → is_library o ≡ false
-from_file other files n None e = refl
-from_file other files n (Some c) e = files.each n c e
+from_file : (other : Look) → AreOfFiles other → (n : Name) (o : Option Linked) → is_site_name n ≡ false → other n ≡ o → is_library o ≡ false
+from_file other files n None plain e = refl
+from_file other files n (Some c) plain e = files.each n c e plain
 
-among_case : (other : Look) → AreOfFiles other → (n : Name) (o : Option Linked) → class_among table n ≡ o → is_library (first_of o (other n)) ≡ true → (c : Linked) × (class_among table n ≡ Some c)
-among_case other files n None e l = absurd (true≢false (sym l ∙ from_file other files n (other n) refl))
-among_case other files n (Some c) e l = (c, e)
+among_case : (other : Look) → AreOfFiles other → (n : Name) (o : Option Linked) → is_site_name n ≡ false → class_among table n ≡ o → is_library (first_of o (other n)) ≡ true → (c : Linked) × (class_among table n ≡ Some c)
+among_case other files n None plain e l = absurd (true≢false (sym l ∙ from_file other files n (other n) plain refl))
+among_case other files n (Some c) plain e l = (c, e)
 
--- What is told of each name of the table is told of each name of the library.
-pub of_library : (other : Look) → AreOfFiles other → (test : Name → Bool) → list_all (λ x. test x.0) table ≡ true → (n : Name) → is_library (beside other n) ≡ true → test n ≡ true
-of_library other files test e n l =
-    let c = among_case other files n (class_among table n) refl l in
+-- What is told of each name of the table is told of each name of the library but of adapters.
+pub of_library : (other : Look) → AreOfFiles other → (test : Name → Bool) → list_all (λ x. test x.0) table ≡ true → (n : Name) → is_library (beside other n) ≡ true → is_site_name n ≡ false → test n ≡ true
+of_library other files test e n l plain =
+    let c = among_case other files n (class_among table n) plain refl l in
     each_name test table n c.0 e c.1

@@ -5,6 +5,7 @@ use Rattle.program_rules.specs.Names.{Name}
 use Rattle.program_rules.specs.Linked.{Linked}
 use Rattle.program_rules.specs.Programs.{Look}
 use Rattle.program_rules.specs.Library.{class_among, first_of}
+use Rattle.program_rules.specs.Sites.{is_site_name}
 use Rattle.class_link.specs.Info.{own_name}
 use Rattle.class_link.specs.Linking.{link}
 use Rattle.lib_table.specs.Library.{library_meant}
@@ -17,9 +18,10 @@ with_others classes other n = first_of (class_among classes n) (other n)
 abbrev pub beside_library : Look → Look
 beside_library other = with_others library_meant other
 
--- None of these is of the library.
+-- None of these is of the library, but for adapters of sites.
 pub record AreOfFiles (other : Look) : Type 0 where
-  pub each : (n : Name) (c : Linked) → other n ≡ Some c → c.library ≡ false
+  pub each :
+      (n : Name) (c : Linked) → other n ≡ Some c → is_site_name n ≡ false → c.library ≡ false
 
 -- The same the other way round, as programs are built: a name means one of the others, else one of
 -- the library.

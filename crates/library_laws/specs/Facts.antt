@@ -8,9 +8,11 @@ use Rattle.program_rules.specs.Outlines.{outline_of, fields_in}
 use Rattle.program_rules.specs.Programs.{Look, Rising, nodes, top_of}
 use Rattle.type_laws.specs.Soundness.{AllObject, HasLibrary}
 use Rattle.program_laws.specs.Ordered.{HasArrays}
-use Rattle.library_laws.specs.Beside.{AreOfFiles, AreApart, behind_others, named}
+use Rattle.machine_laws.specs.Sited.{IsOfFiles}
+use Rattle.library_laws.specs.Beside.{AreOfFiles, AreApart, behind_others, named, program_of}
 
--- This is so of each program of the library and of class files that have no name of the library.
+-- This is so of each program of the library and of class files that have no name of the library,
+-- with adapters of sites and without.
 abbrev pub InEachProgram : (Look → Type 0) → Type 0
 InEachProgram P = (other : Look) → AreOfFiles other → AreApart other → P (behind_others other)
 
@@ -43,3 +45,10 @@ abbrev pub FilesAreNoArrays : Type 0
 FilesAreNoArrays =
     (classes : List Class) → All IsClass classes →
     AreNoArrays (class_among (map named classes))
+
+-- ---- sizes and names of class files
+
+-- Of class files that were read and the library no class has a semicolon in its name, or more
+-- methods and code than a class file.
+abbrev pub ProgramsAreOfFiles : Type 0
+ProgramsAreOfFiles = (classes : List Class) → All IsClass classes → IsOfFiles (program_of classes)

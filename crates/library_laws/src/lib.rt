@@ -18,4 +18,6 @@ pub use kept_items::natives_that_keep_items_fit;
 pub use linking::accepted_are_linked;
 pub use native_methods::natives_fit;
 pub use natives::{keepers_have_hosts, natives_have_hosts};
-pub use whole::{faults_are_there, library_is_closed, library_is_there, object_is_bare};
+pub use whole::{
+    faults_are_there, library_is_closed, library_is_there, object_is_bare, programs_are_of_files,
+};

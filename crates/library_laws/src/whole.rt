@@ -3,6 +3,7 @@
 ghost use Rattle.type_laws.specs.Soundness.{HasFaults};
 ghost use Rattle.machine_laws.specs.Consulted.{IsLibraryWhole};
 ghost use Rattle.library_laws.specs.Facts.{InEachProgram, HasLibraryIfTops, HasBareObject};
+ghost use Rattle.library_laws.specs.Facts.{ProgramsAreOfFiles};
 
 /// The exceptions that the machine makes are there, below Throwable, with a message and a cause.
 #[tactic(auto, using(crate::proofs::Machine::faults))]
@@ -26,4 +27,11 @@ pub fn object_is_bare()
 #[tactic(auto, using(crate::proofs::Closed::whole))]
 pub fn library_is_closed()
     ensures { InEachProgram IsLibraryWhole }
+{}
+
+/// Class files that were read and the library are such a program as has the adapters of its sites,
+/// once it is taken with the adapters that their names tell (`machine_laws::adapters_are_told`).
+#[tactic(auto, using(crate::proofs::OfFiles::are_of_files))]
+pub fn programs_are_of_files()
+    ensures { ProgramsAreOfFiles }
 {}

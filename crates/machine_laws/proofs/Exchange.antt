@@ -16,6 +16,10 @@ use Rattle.machine_rules.specs.Throwing.{rows_in, rows_of, Caught, matches, choo
 use Rattle.machine_rules.specs.Steps.{method_text, line_in, line_of, reach, reaches, Fetched, fetch_from, fetch_in_code, fetch_in_method, fetch}
 use Rattle.machine_laws.specs.Edit.{Edit, moved_place, is_edited, place_in, relocate, moved_row, edited_method, edited_class, IsEdited}
 use Rattle.machine_laws.specs.EditLaws.{moved_frame, IsAway}
+use Rattle.program_rules.specs.Instructions.{DynamicRef}
+use Rattle.program_rules.specs.Sites.{site_name}
+use Rattle.machine_rules.specs.DynamicRows.{site_in, number_in, adapter_name}
+use Rattle.machine_laws.proofs.Numbers.{number_moved}
 use Rattle.machine_laws.proofs.Places.{place_by, relocated_id, covers_by, line_moved, get_replaced, get_map, set_same, set_other, map_set}
 
 -- the room of a frame is no less on the edited program
@@ -134,6 +138,19 @@ module _ (e : Edit) (p p' : Look) (ed : IsEdited e p p') where
   fetch_alike f away =
       method_rel (λ b o o'. (at : ℕ) → (b ≡ true → at ≢ e.at) → MovedFetch (place_by e b) (fetch_in_method o at) (fetch_in_method o' (place_by e b at)))
       (λ at h. fetched_moved at (h refl)) (λ o at h. fetch_id (fetch_in_method o at)) f.class f.method f.at away
+
+  -- the site at which a frame stands has the number that it had
+  pub number_alike : (f : Frame) → IsAway e f → number_in (code_of (method_in (p' f.class) f.method)) (moved_frame e f).at ≡ number_in (code_of (method_in (p f.class) f.method)) f.at
+  number_alike f away =
+      method_rel (λ b o o'. (at : ℕ) → (b ≡ true → at ≢ e.at) → number_in (code_of o') (place_by e b at) ≡ number_in (code_of o) at)
+      (λ at h. number_moved e p p' ed at (h refl) ∙ sym (ap (λ o. number_in o at) code_known)) (λ o at h. refl) f.class f.method f.at away
+
+  pub adapter_alike : (f : Frame) → IsAway e f → adapter_name (p' f.class) (moved_frame e f) ≡ adapter_name (p f.class) f
+  adapter_alike f away = ap (site_name f.class f.method) (number_alike f away)
+
+  -- and it is the same site
+  pub site_alike : (class : Name) (r : DynamicRef) → site_in class (p' class) r ≡ site_in class (p class) r
+  site_alike class r = class_alike (λ o. site_in class o r) refl class
 
   pub line_alike : (f : Frame) → line_of p' (moved_frame e f) ≡ line_of p f
   line_alike f =

@@ -11,7 +11,7 @@ use Rattle.machine_rules.specs.Outcomes.{Outcome}
 use Rattle.machine_rules.specs.declared.machine.Limits.{Limits}
 use Rattle.program_rules.specs.Names.{Name, is_listed, class_behind, plain_descriptor}
 use Rattle.program_rules.specs.Kinds.{Kind, is_int_kind, is_long_kind, is_of_kind, narrow}
-use Rattle.program_rules.specs.Instructions.{Instruction, Nop, NullConstant, IntConstant, LongConstant, TextConstant, ClassConstant, IntLoad, LongLoad, ReferenceLoad, IntStore, LongStore, ReferenceStore, ArrayLoad, ArrayStore, Pop, Pop2, Dup, DupX1, DupX2, Dup2, Dup2X1, Dup2X2, Swap, IntOperation, LongOperation, IntNegate, LongNegate, IntShift, LongShift, Increment, Convert, LongCompare, IfInt, IfInts, IfSame, IfNotSame, IfNull, IfNotNull, Goto, TableSwitch, LookupSwitch, IntReturn, LongReturn, ReferenceReturn, PlainReturn, GetStatic, PutStatic, GetField, PutField, InvokeVirtual, InvokeInterface, InvokeSpecial, InvokeStatic, New, NewArray, NewReferenceArray, NewMultiArray, ArrayLength, Throw, CheckCast, InstanceOf, MonitorEnter, MonitorExit, Unlinked}
+use Rattle.program_rules.specs.Instructions.{Instruction, Nop, NullConstant, IntConstant, LongConstant, TextConstant, ClassConstant, IntLoad, LongLoad, ReferenceLoad, IntStore, LongStore, ReferenceStore, ArrayLoad, ArrayStore, Pop, Pop2, Dup, DupX1, DupX2, Dup2, Dup2X1, Dup2X2, Swap, IntOperation, LongOperation, IntNegate, LongNegate, IntShift, LongShift, Increment, Convert, LongCompare, IfInt, IfInts, IfSame, IfNotSame, IfNull, IfNotNull, Goto, TableSwitch, LookupSwitch, IntReturn, LongReturn, ReferenceReturn, PlainReturn, GetStatic, PutStatic, GetField, PutField, InvokeVirtual, InvokeInterface, InvokeSpecial, InvokeStatic, InvokeDynamic, New, NewArray, NewReferenceArray, NewMultiArray, ArrayLength, Throw, CheckCast, InstanceOf, MonitorEnter, MonitorExit, Unlinked}
 use Rattle.program_rules.specs.declared.fault.Fault.TheVariants.{ExceptionInInitializerError}
 use Rattle.program_rules.specs.Linked.{method_in, is_static}
 use Rattle.program_rules.specs.Outlines.{Callable, Written, Natively, Copies, Abstractly}
@@ -34,7 +34,7 @@ use Rattle.machine_laws.specs.Edit.{Edit, place_in, relocate, IsEdited}
 use Rattle.machine_laws.specs.EditLaws.{moved_frame, moved_state, IsAway, AreAway, StepFollows, StepsAlike, StaysAway, RunsAlike}
 use Rattle.machine_laws.proofs.Exchange.{MoreRoom, MovedFetch, fetch_alike, room_alike, reaches_alike, initializes_alike, moved_target, moved_caught, caught_alike}
 use Rattle.machine_laws.proofs.Following.{Follows, follows_by, follows_some, follows_if, follows_test, follows_top, follows_int, follows_long, follows_full, follows_throws, follows_enters, follows_next, follows_looks, follows_known, follows_ready}
-use Rattle.machine_laws.proofs.MovedRows.{moved_goes_on, moved_casts, moved_compares_longs, moved_converts, moved_doubles, moved_doubles_two, moved_doubles_two_under_one, moved_doubles_two_under_two, moved_doubles_under_one, moved_doubles_under_two, moved_enters_monitor, moved_exits_monitor, moved_gets_field, moved_gets_static, moved_increments, moved_invokes_interface, moved_invokes_special, moved_invokes_static, moved_invokes_virtual, moved_loads_class, moved_loads_element, moved_loads_int, moved_loads_long, moved_loads_reference, moved_loads_text, moved_makes_arrays, moved_makes_object, moved_makes_primitive, moved_makes_references, moved_measures, moved_negates_int, moved_negates_long, moved_on_int, moved_on_ints, moved_on_null, moved_on_references, moved_operates_int, moved_operates_long, moved_pops_two, moved_pops_word, moved_push, moved_puts_field, moved_puts_static, moved_shifts_int, moved_shifts_long, moved_stores_element, moved_stores_int, moved_stores_long, moved_stores_reference, moved_swaps, moved_switch, moved_table, moved_tests, moved_throws_object}
+use Rattle.machine_laws.proofs.MovedRows.{moved_goes_on, moved_casts, moved_compares_longs, moved_converts, moved_doubles, moved_doubles_two, moved_doubles_two_under_one, moved_doubles_two_under_two, moved_doubles_under_one, moved_doubles_under_two, moved_enters_monitor, moved_exits_monitor, moved_gets_field, moved_gets_static, moved_increments, moved_invokes_interface, moved_invokes_special, moved_invokes_static, moved_invokes_virtual, moved_loads_class, moved_loads_element, moved_loads_int, moved_loads_long, moved_loads_reference, moved_loads_text, moved_makes_adapter, moved_makes_arrays, moved_makes_object, moved_makes_primitive, moved_makes_references, moved_measures, moved_negates_int, moved_negates_long, moved_on_int, moved_on_ints, moved_on_null, moved_on_references, moved_operates_int, moved_operates_long, moved_pops_two, moved_pops_word, moved_push, moved_puts_field, moved_puts_static, moved_shifts_int, moved_shifts_long, moved_stores_element, moved_stores_int, moved_stores_long, moved_stores_reference, moved_swaps, moved_switch, moved_table, moved_tests, moved_throws_object}
 
 module _ (e : Edit) (p p' : Look) (ed : IsEdited e p p') (q : Limits) where
   -- ---- returns
@@ -122,6 +122,7 @@ module _ (e : Edit) (p p' : Look) (ed : IsEdited e p p') (q : Limits) where
   act_follows here wider more (InvokeInterface r) w f fs away aways = moved_invokes_interface e p p' ed q f fs away here.max_stack wider more w r
   act_follows here wider more (InvokeSpecial r) w f fs away aways = moved_invokes_special e p p' ed q f fs away here.max_stack wider more w r
   act_follows here wider more (InvokeStatic r) w f fs away aways = moved_invokes_static e p p' ed q f fs away here.max_stack wider more w r
+  act_follows here wider more (InvokeDynamic r) w f fs away aways = moved_makes_adapter e p p' ed q f fs away here.max_stack wider more w r
   act_follows here wider more (New n) w f fs away aways = moved_makes_object e p p' ed q f fs away here.max_stack wider more w n
   act_follows here wider more (NewArray k) w f fs away aways = moved_makes_primitive e q f fs away here.max_stack wider more w k
   act_follows here wider more (NewReferenceArray n) w f fs away aways = moved_makes_references e p p' ed q f fs away here.max_stack wider more w n

@@ -1,5 +1,5 @@
--- A step opens at most one monitorenter of an object, keeps the lines that were reached, and
--- consults by whole walks.
+-- A step opens at most one monitorenter of an object, keeps the lines that were reached, consults
+-- by whole walks, and leaves a script that names no adapter as such a one.
 use Rattle.std.proofs.Common.{◌≡◌, ◌≤◌, ℕ, zero, suc, ◌+◌, ◌++◌, ◌∙◌, Bool, true, false, nat_eq, List, [], ◌∷◌, Option, Some, None, refl, sym, ap, subst, arith}
 use Rattle.std.specs.Prelude.{if◌then◌else◌, ◌&&◌, ◌||◌}
 use Rattle.std.proofs.lemmas.Bool.{eqb-true}
@@ -9,9 +9,10 @@ use Rattle.program_rules.specs.declared.value.Value.{Value}
 use Rattle.program_rules.specs.declared.value.Value.TheVariants.{Int, Long, Null}
 use Rattle.program_rules.specs.Names.{Name, same}
 use Rattle.program_rules.specs.declared.fault.Fault.TheVariants.{IllegalMonitorStateException}
-use Rattle.program_rules.specs.Instructions.{Instruction, Nop, NullConstant, IntConstant, LongConstant, TextConstant, ClassConstant, IntLoad, LongLoad, ReferenceLoad, IntStore, LongStore, ReferenceStore, ArrayLoad, ArrayStore, Pop, Pop2, Dup, DupX1, DupX2, Dup2, Dup2X1, Dup2X2, Swap, IntOperation, LongOperation, IntNegate, LongNegate, IntShift, LongShift, Increment, Convert, LongCompare, IfInt, IfInts, IfSame, IfNotSame, IfNull, IfNotNull, Goto, TableSwitch, LookupSwitch, IntReturn, LongReturn, ReferenceReturn, PlainReturn, GetStatic, PutStatic, GetField, PutField, InvokeVirtual, InvokeInterface, InvokeSpecial, InvokeStatic, New, NewArray, NewReferenceArray, NewMultiArray, ArrayLength, Throw, CheckCast, InstanceOf, MonitorEnter, MonitorExit, Unlinked}
+use Rattle.program_rules.specs.Instructions.{Instruction, Nop, NullConstant, IntConstant, LongConstant, TextConstant, ClassConstant, IntLoad, LongLoad, ReferenceLoad, IntStore, LongStore, ReferenceStore, ArrayLoad, ArrayStore, Pop, Pop2, Dup, DupX1, DupX2, Dup2, Dup2X1, Dup2X2, Swap, IntOperation, LongOperation, IntNegate, LongNegate, IntShift, LongShift, Increment, Convert, LongCompare, IfInt, IfInts, IfSame, IfNotSame, IfNull, IfNotNull, Goto, TableSwitch, LookupSwitch, IntReturn, LongReturn, ReferenceReturn, PlainReturn, GetStatic, PutStatic, GetField, PutField, InvokeVirtual, InvokeInterface, InvokeSpecial, InvokeStatic, InvokeDynamic, New, NewArray, NewReferenceArray, NewMultiArray, ArrayLength, Throw, CheckCast, InstanceOf, MonitorEnter, MonitorExit, Unlinked}
 use Rattle.program_rules.specs.Linked.{is_from_file}
 use Rattle.program_rules.specs.Programs.{Look, consulted_with}
+use Rattle.program_rules.specs.Tests.{Call}
 use Rattle.machine_rules.specs.State.{Frame, World, MachineState, start}
 use Rattle.machine_rules.specs.Effects.{Effect, Goes, NoRow, Current, on_some}
 use Rattle.machine_rules.specs.TypeRows.{monitor_count, enters_monitor, exits_with, exits_monitor}
@@ -19,10 +20,11 @@ use Rattle.machine_rules.specs.Steps.{act, line_of, is_reached, reach, fetch, go
 use Rattle.machine_laws.specs.FrameLaw.{IfNext}
 use Rattle.machine_laws.specs.Monitors.{StepsOpenOneMonitor, StartsOpenNone, RunsOpenFew, then_step, after_steps}
 use Rattle.machine_laws.specs.Lines.{KeepsLines, StepsKeepLines}
+use Rattle.machine_laws.specs.Plain.{CatchesPlain, ScriptPlain, WorldPlain}
 use Rattle.machine_laws.specs.Walks.{consult_all, Comes, StepsConsultWalks}
-use Rattle.machine_laws.proofs.Retaining.{Monitors, Lines, Fact, Closed, Holds, Retains, retains_some, retains_int, retains_ints, retains_long, retains_longs, retains_reference, retains_pushes, retains_throws, retains_null}
-use Rattle.machine_laws.proofs.RetainingRows.{retains_loads_int, retains_loads_long, retains_loads_reference, retains_stores_int, retains_stores_long, retains_stores_reference, retains_increments, retains_pops_word, retains_pops_two, retains_doubles, retains_doubles_under_one, retains_doubles_under_two, retains_doubles_two, retains_doubles_two_under_one, retains_doubles_two_under_two, retains_swaps, retains_operates_int, retains_operates_long, retains_converts, retains_loads_element, retains_stores_element, retains_measures, retains_primitive_array, retains_reference_array, retains_arrays, retains_loads_text, retains_loads_class, retains_makes_object, retains_casts, retains_tests, retains_throws_object, retains_gets_static, retains_puts_static, retains_gets_field, retains_puts_field}
-use Rattle.machine_laws.proofs.RetainingCalls.{retains_invokes_static, retains_invokes_virtual, retains_invokes_interface, retains_invokes_special, retains_returns_int, retains_returns_long, retains_returns_reference, retains_returns_plain, retains_unwinds, retains_calls_next}
+use Rattle.machine_laws.proofs.Retaining.{Monitors, Lines, Told, told, Fact, Closed, Holds, Retains, retains_some, retains_int, retains_ints, retains_long, retains_longs, retains_reference, retains_pushes, retains_throws, retains_null}
+use Rattle.machine_laws.proofs.RetainingRows.{retains_loads_int, retains_loads_long, retains_loads_reference, retains_stores_int, retains_stores_long, retains_stores_reference, retains_increments, retains_pops_word, retains_pops_two, retains_doubles, retains_doubles_under_one, retains_doubles_under_two, retains_doubles_two, retains_doubles_two_under_one, retains_doubles_two_under_two, retains_swaps, retains_operates_int, retains_operates_long, retains_converts, retains_loads_element, retains_stores_element, retains_measures, retains_primitive_array, retains_reference_array, retains_arrays, retains_loads_text, retains_loads_class, retains_makes_object, retains_casts, retains_tests, retains_throws_object, retains_gets_static, retains_puts_static, retains_gets_field, retains_puts_field, retains_makes_adapter}
+use Rattle.machine_laws.proofs.RetainingCalls.{retains_invokes_static, retains_invokes_virtual, retains_invokes_interface, retains_invokes_special, retains_returns_int, retains_returns_long, retains_returns_reference, retains_returns_plain, retains_unwinds, Cuts, retains_calls_next}
 
 -- ---- the two rows of monitors
 
@@ -65,6 +67,11 @@ keeps_case c l rs false d m h = keeps_more (c, l) rs d m h
 keeps_reach : (c : Name) (l : ℕ) (rs : Lines) → KeepsLines rs (reach c l rs)
 keeps_reach c l rs = keeps_case c l rs (is_reached c l rs)
 
+-- No call that is left in the world behind a row names an adapter.
+abbrev pub PlainEffect : Effect → Type 0
+PlainEffect (Goes t) = WorldPlain t.world
+PlainEffect NoRow = Unit {0}
+
 -- ---- what is consulted
 
 no_walk : (p : Look) (ns : List Name) → Comes p ns ns
@@ -84,16 +91,27 @@ one_walk p ns ms n h = record {
   made = ap (consulted_with p n) h.made ∙ sym (last_walk p h.walks n ns);
 }
 
--- Of each object at most one monitorenter more is open than in a world, the lines that were reached
--- are those of that world, and what was consulted comes of what was there.
-abbrev Kept : Look → World → Fact
-Kept p w ms rs ns = OneMore w.monitors ms × (rs ≡ w.reached) × Comes p w.consulted ns
+-- What is left of a script names no adapter if that of a world names none.
+abbrev StaysPlain : World → Told → Type 0
+StaysPlain w ts = WorldPlain w → CatchesPlain ts.1 × ScriptPlain ts.2
 
-kept_same : (p : Look) (w : World) → Kept p w w.monitors w.reached w.consulted
-kept_same p w = (one_more w.monitors, refl, no_walk p w.consulted)
+-- Of each object at most one monitorenter more is open than in a world, the lines that were reached
+-- are those of that world, what was consulted comes of what was there, and the script stays plain.
+abbrev Kept : Look → World → Fact
+Kept p w ms ts ns =
+    OneMore w.monitors ms × (ts.0 ≡ w.reached) × Comes p w.consulted ns × StaysPlain w ts
+
+kept_same : (p : Look) (w : World) → Kept p w w.monitors (told w) w.consulted
+kept_same p w = (one_more w.monitors, refl, no_walk p w.consulted, λ plain. plain)
 
 kept_closed : (p : Look) (w : World) → Closed (Kept p w) p
-kept_closed p w n ms rs ns k = (k.0, k.1, one_walk p w.consulted ns n k.2)
+kept_closed p w n ms ts ns k = (k.0, k.1, one_walk p w.consulted ns n k.2, k.3)
+
+cuts : (p : Look) (w : World) (cs : List Call) → w.script ≡ cs → Cuts (Kept p w) cs
+cuts p w [] e = tt
+cuts p w (c ∷ rest) e =
+    λ ms rs o cs ns k.
+    (k.0, k.1, k.2, λ plain. ((k.3 plain).0, (subst ScriptPlain e plain.1).1))
 
 module _ (p : Look) (q : Limits) (w : World) (f : Frame) (fs : List Frame) where
   abbrev P : Fact
@@ -111,6 +129,7 @@ module _ (p : Look) (q : Limits) (w : World) (f : Frame) (fs : List Frame) where
         set_monitor x (monitor_count x w.monitors + 1) w.monitors (omega arith),
         refl,
         no_walk p w.consulted,
+        λ plain. plain,
       )))
 
   closes_with :
@@ -118,7 +137,7 @@ module _ (p : Look) (q : Limits) (w : World) (f : Frame) (fs : List Frame) where
       Retains P (exits_with q w f fs rest x n)
   closes_with rest x zero e = retains_throws P q w (f ∷ fs) IllegalMonitorStateException h
   closes_with rest x (suc n) e =
-      (set_monitor x n w.monitors (omega (arith, e)), refl, no_walk p w.consulted)
+      (set_monitor x n w.monitors (omega (arith, e)), refl, no_walk p w.consulted, λ plain. plain)
 
   closes_one : Retains P (exits_monitor q w f fs)
   closes_one =
@@ -185,6 +204,7 @@ module _ (p : Look) (q : Limits) (w : World) (f : Frame) (fs : List Frame) where
   act_opens here (InvokeInterface r) = retains_invokes_interface P p closed q w f fs here.max_stack r h
   act_opens here (InvokeSpecial r) = retains_invokes_special P p closed q w f fs here.max_stack r h
   act_opens here (InvokeStatic r) = retains_invokes_static P p closed q w f fs here.max_stack r h
+  act_opens here (InvokeDynamic r) = retains_makes_adapter P p closed q w f fs h here.max_stack r
   act_opens here (New n) = retains_makes_object P p closed q w f fs h here.max_stack n
   act_opens here (NewArray k) = retains_primitive_array P p closed q w f fs h here.max_stack k
   act_opens here (NewReferenceArray n) = retains_reference_array P p closed q w f fs h here.max_stack n
@@ -220,8 +240,8 @@ running_line p [] = 0
 running_line p (f ∷ fs) = line_of p f
 
 abbrev Went : Look → World → Bool → Name → ℕ → Fact
-Went p w b c l ms rs ns =
-    OneMore w.monitors ms × LineStep w.reached b c l rs × Comes p w.consulted ns
+Went p w b c l ms ts ns =
+    OneMore w.monitors ms × LineStep w.reached b c l ts.0 × Comes p w.consulted ns × StaysPlain w ts
 
 line_opens :
     (p : Look) (q : Limits) (b : Bool) (w : World) (f : Frame) (fs : List Frame) (c : Name)
@@ -239,7 +259,8 @@ goes_opens :
     (p : Look) (q : Limits) (w : World) (x : Option ℕ) (fs : List Frame) →
     Retains (Went p w (runs_file p x fs) (running_class fs) (running_line p fs)) (goes p q w x fs)
 goes_opens p q w None [] =
-    retains_calls_next (Kept p w) p (kept_closed p w) q w w.script (kept_same p w)
+    retains_calls_next (Kept p w) p (kept_closed p w) q w w.script (cuts p w w.script refl)
+    (kept_same p w)
 goes_opens p q w (Some x) [] = tt
 goes_opens p q w None (f ∷ fs) =
     line_opens p q (is_from_file (p f.class)) w f fs f.class (line_of p f)
@@ -277,6 +298,20 @@ module _ (p : Look) (w : World) (b : Bool) (c : Name) (l : ℕ) (place : Place) 
       IfNext (next_or place d) (λ t. LineStep w.reached b c l t.world.reached)
   next_lines (Goes t) k = k.1
   next_lines NoRow k = tt
+
+plain_case :
+    (p : Look) (w : World) (b : Bool) (c : Name) (l : ℕ) (d : Effect) → WorldPlain w →
+    Retains (Went p w b c l) d → PlainEffect d
+plain_case p w b c l (Goes t) plain k = k.3 plain
+plain_case p w b c l NoRow plain k = tt
+
+-- A step leaves a script that names no adapter as such a one.
+pub plain_goes :
+    (p : Look) (q : Limits) (w : World) (x : Option ℕ) (fs : List Frame) → WorldPlain w →
+    PlainEffect (goes p q w x fs)
+plain_goes p q w x fs plain =
+    plain_case p w (runs_file p x fs) (running_class fs) (running_line p fs) _ plain
+    (goes_opens p q w x fs)
 
 unless_opens :
     (o : Option Outcome) (d : Stepped) (Q : MachineState → Type 0) → IfNext d Q →

@@ -1,5 +1,5 @@
 -- Each row on the edited program: the same, moved.
-use Rattle.std.proofs.Common.{◌≤◌, ℕ, zero, suc, ◌+◌, ◌++◌, Bool, List, [], ◌∷◌, length, Option, Some, None, refl, ap, map}
+use Rattle.std.proofs.Common.{◌≤◌, ℕ, zero, suc, ◌+◌, ◌++◌, Bool, List, [], ◌∷◌, length, Option, Some, None, refl, ap, map, ◌∙◌}
 use Rattle.std.specs.Prelude.{ℤ, pos, negsuc, ◌-ℤ◌, ◌+ℤ◌, ◌&&◌, ◌||◌, unsigned_abs, nat_lt, if◌then◌else◌, slice_get, slice_set, is_none}
 use Rattle.std.specs.Int.{is_negative, int_wrap, w32, w64}
 use Rattle.std.specs.List.{list_any}
@@ -16,15 +16,19 @@ use Rattle.program_rules.specs.declared.operation.Comparison.{Comparison}
 use Rattle.program_rules.specs.declared.operation.Conversion.{Conversion}
 use Rattle.program_rules.specs.declared.operation.Conversion.TheVariants.{IntToLong, LongToInt, IntToByte, IntToChar, IntToShort}
 use Rattle.machine_rules.specs.Arithmetic.{operate, divides_by_zero, int_distance, long_distance, shift_by, negate, compare_longs, compares}
-use Rattle.program_rules.specs.Linked.{is_static, is_private}
+use Rattle.program_rules.specs.Linked.{is_static}
 use Rattle.program_rules.specs.declared.fault.Fault.TheVariants.{ArithmeticException, ArrayIndexOutOfBoundsException, NegativeArraySizeException, ArrayStoreException, ClassCastException, InstantiationError, IllegalMonitorStateException, IncompatibleClassChangeError, AbstractMethodError}
 use Rattle.program_rules.specs.Faults.{Answer}
-use Rattle.program_rules.specs.Outlines.{Callable, Written, Natively, Copies, Abstractly, interfaces_in, is_abstract_class}
+use Rattle.program_rules.specs.Outlines.{Callable, Written, Natively, Copies, Abstractly, interfaces_in, is_interface_class, is_abstract_class}
 use Rattle.program_rules.specs.Programs.{Look, Family, superclass_in}
+use Rattle.program_rules.specs.Sites.{Site}
+use Rattle.program_rules.specs.Instructions.{DynamicRef}
+use Rattle.machine_rules.specs.DynamicRows.{site_in, adapter_name, narrowed, adapter_object, makes_holding, makes_adapter_of, makes_adapter}
+use Rattle.machine_laws.proofs.Exchange.{adapter_alike, site_alike}
 use Rattle.program_rules.specs.Objects.{Object, object_at}
 use Rattle.machine_rules.specs.State.{Frame, World}
-use Rattle.machine_rules.specs.Effects.{Effect, NoRow, with_local, with_long_local, jumps, lays, on_found, pushes, allocate, unless_full, throws_from, throws}
-use Rattle.machine_rules.specs.Lookups.{is_array, methods_of, is_instance}
+use Rattle.machine_rules.specs.Effects.{Effect, NoRow, on_some, with_local, with_long_local, jumps, lays, on_found, pushes, allocate, unless_full, throws_from, throws}
+use Rattle.machine_rules.specs.Lookups.{resolves, is_array, methods_of, is_instance}
 use Rattle.machine_rules.specs.NewObjects.{array_of, new_array, new_arrays, new_object, literal, object_of_class}
 use Rattle.program_rules.specs.Layout.{words_of}
 use Rattle.program_rules.specs.Resolution.{FieldAt, resolve_field, MethodAt, resolve_method, is_initializer_name}
@@ -34,12 +38,12 @@ use Rattle.machine_rules.specs.Performing.{NativeResult, Returns, Raises, Return
 use Rattle.machine_rules.specs.Fields.{static_value, with_values, reads_static, writes_static, static_in, gets_static, puts_static, instance_at, on_owner, reads_field, writes_field, gets_field_in, puts_field_in, gets_field, puts_field}
 use Rattle.machine_rules.specs.Arrays.{array_kind, on_array, serves, taken_by, element_at, if_inside, on_element, loads_element, fits_component, if_storable, stores_element, measures_array, on_count, pushes_new, makes_array, makes_primitive_array, makes_reference_array, on_counts, has_dimensions, makes_arrays_in, makes_arrays, copies}
 use Rattle.machine_rules.specs.TypeRows.{loads_text, loads_class, makes_instance, makes_object, casts_to, casts, truth, tests_for, tests, throws_object, monitor_count, opens, enters_monitor, exits_with, exits_monitor}
-use Rattle.machine_rules.specs.Calls.{goes_on, ends_native, calls, calls_method, calls_static, static_method_at, invokes, invokes_static, on_receiver, virtual_at, invokes_virtual, interface_at, invokes_interface, calls_above, special_from, special_at, invokes_special}
+use Rattle.machine_rules.specs.Calls.{is_refused, select_interface, goes_on, ends_native, calls, calls_method, calls_static, static_method_at, invokes, invokes_static, on_receiver, virtual_at, invokes_virtual, interface_at, invokes_interface, calls_above, special_from, special_at, invokes_special}
 use Rattle.machine_rules.specs.Steps.{int_local, long_local, reference_local, reference_of, keeps, loads_int, loads_long, loads_reference, stores_int, stores_long, stores_reference, increments, pops_word, pops_two, doubles, doubles_under_one, doubles_under_two, doubles_two, doubles_two_under_one, doubles_two_under_two, swaps, unless_by_zero, operates_int, operates_long, negates_int, negates_long, shifts_int, shifts_long, compares_longs, converts, branches_on_int, branches_on_ints, same_reference, branches_on_references, branches_on_null, switches_table, switches_keys}
 use Rattle.machine_laws.specs.Edit.{Edit, place_in, moved_keys, IsEdited}
 use Rattle.machine_laws.specs.EditLaws.{moved_frame, IsAway}
 use Rattle.machine_laws.proofs.Places.{table_moved, keys_moved}
-use Rattle.machine_laws.proofs.Following.{Follows, follows_some, follows_if, follows_test, follows_int, follows_long, follows_reference, follows_kind, follows_word, follows_two, follows_reversed, follows_full, follows_throws, follows_found, follows_null, follows_enters, follows_next, follows_branch, follows_lays, follows_looks, follows_resolves, follows_known, follows_ready}
+use Rattle.machine_laws.proofs.Following.{Follows, follows_by, follows_some, follows_if, follows_test, follows_int, follows_long, follows_reference, follows_kind, follows_word, follows_two, follows_reversed, follows_full, follows_throws, follows_found, follows_null, follows_enters, follows_next, follows_branch, follows_lays, follows_looks, follows_resolves, follows_known, follows_ready}
 
 -- ---- rows that don't read the program
 
@@ -401,9 +405,30 @@ module _ (e : Edit) (p p' : Look) (ed : IsEdited e p p') (q : Limits) (f : Frame
 
   interface_case : (w : World) (r : MethodRef) (m : MethodAt) → Follows e (interface_at p q f fs room r w m) (interface_at p' q nf nfs wider r w m)
   interface_case w r m =
-      follows_if e (is_static m.flags || is_private m.flags) _ _ _ _ (follows_throws e q w (f ∷ fs) IncompatibleClassChangeError)
+      follows_if e (is_refused f m) _ _ _ _ (follows_throws e q w (f ∷ fs) IncompatibleClassChangeError)
       (receiver_case w r _ _ (λ x args rest. follows_known e p p' ed q w x _ _ (λ o.
-      follows_if e (is_instance o r.class) _ _ _ _ (found_case w args rest (select_named r (methods_of o))) (follows_throws e q w (f ∷ fs) IncompatibleClassChangeError))))
+      follows_if e (is_instance o r.class) _ _ _ _ (found_case w args rest (select_interface r m (methods_of o))) (follows_throws e q w (f ∷ fs) IncompatibleClassChangeError))))
+
+  -- the object of an adapter
+  holding_case : (w : World) (n : Name) (ks : List Kind) (vs rest : List Value) → Follows e (makes_holding q w f fs room n ks vs rest) (makes_holding q w nf nfs wider n ks vs rest)
+  holding_case w n ks vs rest =
+      follows_full e w (f ∷ fs) (allocate q w (adapter_object n (narrowed ks vs)) (1 + length (narrowed ks vs))) _ _ (λ a. follows_lays e f fs away room wider more a.0 (Ref a.1 ∷ rest))
+
+  adapter_case : (w : World) (n : Name) (s : Site) → Follows e (resolves p q w (f ∷ fs) s.interface (makes_adapter_of q f fs room n s.captured)) (resolves p' q w (nf ∷ nfs) s.interface (makes_adapter_of q nf nfs wider n s.captured))
+  adapter_case w n s =
+      follows_resolves e p p' ed q w (f ∷ fs) s.interface (makes_adapter_of q f fs room n s.captured) (makes_adapter_of q nf nfs wider n s.captured) (λ u c.
+      follows_if e (is_interface_class c.class) _ _ _ _
+      (follows_reversed e (reversed_onto s.captured []) [] f.stack _ _ (λ vs rest. holding_case u n s.captured vs rest))
+      (follows_throws e q u (f ∷ fs) IncompatibleClassChangeError))
+
+  abbrev site_row : World → Name → Option Site → Effect
+  site_row w n o = on_some o (λ s. resolves p' q w (nf ∷ nfs) s.interface (makes_adapter_of q nf nfs wider n s.captured))
+
+  pub moved_makes_adapter : (w : World) (r : DynamicRef) → Follows e (makes_adapter p q w f fs room r) (makes_adapter p' q w nf nfs wider r)
+  moved_makes_adapter w r =
+      follows_by e (makes_adapter p q w f fs room r) (makes_adapter p' q w nf nfs wider r) (site_row w (adapter_name (p f.class) f) (site_in f.class (p f.class) r))
+      (ap (λ n. site_row w n (site_in f.class (p' f.class) r)) (adapter_alike e p p' ed f away) ∙ ap (site_row w (adapter_name (p f.class) f)) (site_alike e p p' ed f.class r))
+      (follows_some e (site_in f.class (p f.class) r) _ _ (λ s. adapter_case w (adapter_name (p f.class) f) s))
 
   pub moved_invokes_interface : (w : World) (r : MethodRef) → Follows e (invokes_interface p q w f fs room r) (invokes_interface p' q w nf nfs wider r)
   moved_invokes_interface w r =

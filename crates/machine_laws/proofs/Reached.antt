@@ -4,28 +4,28 @@ use Rattle.std.specs.Prelude.{◌≢◌, nat_eq}
 use Rattle.std.proofs.lemmas.Bool.Decides.{nat_tests}
 use Rattle.std.specs.Cmp.Lexicographic.{same_text, other_text}
 use Rattle.machine_rules.specs.declared.machine.Limits.{Limits}
-use Rattle.program_rules.specs.Names.{Name, same, object_name, string_name, class_name}
+use Rattle.program_rules.specs.Names.{Name, same}
 use Rattle.program_rules.specs.Linked.{method_in, is_from_file}
 use Rattle.program_rules.specs.Programs.{Look, supers}
 use Rattle.program_rules.specs.Tests.{Call, Test}
 use Rattle.program_rules.specs.Objects.{ObjectKind, class_of_object, Object}
 use Rattle.machine_rules.specs.State.{Frame, World, MachineState, start}
 use Rattle.machine_rules.specs.Effects.{NoRow, on_some}
-use Rattle.program_rules.specs.Faults.{fault_name}
-use Rattle.program_rules.specs.Deeds.{making_name}
-use Rattle.program_rules.specs.Linked.{is_library}
 use Rattle.machine_rules.specs.Steps.{act, fetch, line_of, reaches, goes, Place, method_text, place_with, place_of, Stepped, Next, Ended, Stuck, outcome_of, next_or, step_of}
 use Rattle.machine_rules.specs.Runs.{Ending, With, StuckAt, Ran, then_run, run_from, run_of, limit_of}
-use Rattle.machine_laws.specs.Consulted.{Seen, AllSeen, Hit, HitIf, AllHit, FramesHit, FramesSeen, KindSeen, HeapSeen, IsLibraryWhole}
+use Rattle.machine_laws.specs.Consulted.{Seen, AllSeen, Hit, HitIf, AllHit, FramesHit, FramesSeen, KindSeen, HeapSeen, IsWhole}
 use Rattle.machine_laws.specs.FrameLaw.{WentRight, HasEnded}
 use Rattle.machine_laws.proofs.Lines.{Pairs, Grow}
 use Rattle.machine_laws.proofs.Sound.{Fine}
-use Rattle.machine_laws.proofs.StepRows.{fine_some, fine_act, good_reaches}
+use Rattle.machine_laws.proofs.StepRows.{fine_at, fine_act, good_reaches}
 use Rattle.machine_laws.proofs.Runs.{kept, same_limits}
+use Rattle.machine_laws.proofs.Monitors.{plain_goes}
+use Rattle.machine_laws.proofs.Numbers.{site_moved, site_owner}
+use Rattle.program_rules.specs.Programs.{is_known}
 use Rattle.machine_laws.specs.Edit.{Edit, is_edited, place_in, IsEdited, edited_line}
 use Rattle.machine_laws.specs.EditLaws.{moved_frame, moved_state, IsAway, AreAway, StepFollows, ReachesLine, edited_place, NotStuckAtEdit, ReachAlike, RunsReachAlike, GoesOnAlike, ReachTheSame, RunsReachTheSame, TestsAlikeUnreached, TestsReachAlike, TestsReachTheSame}
 use Rattle.machine_laws.proofs.Places.{edit_by}
-use Rattle.machine_laws.proofs.Exchange.{text_alike, class_alike, supers_alike, known_alike, file_alike, line_alike, start_alike}
+use Rattle.machine_laws.proofs.Exchange.{text_alike, supers_alike, known_alike, file_alike, line_alike, start_alike}
 use Rattle.machine_laws.proofs.Lockstep.{step_alike, ended_alike}
 use Rattle.machine_laws.proofs.Unreached.{from_file, line_there, all_away, Kept, AfterStep, kept_next, after_kept, grow_past, grow_run, live_step, unreached_alike}
 
@@ -33,7 +33,17 @@ use Rattle.machine_laws.proofs.Unreached.{from_file, line_there, all_away, Kept,
 
 module _ (e : Edit) (p p' : Look) (ed : IsEdited e p p') where
   seen_moved : (ns : List Name) (n : Name) → Seen p ns n → Seen p' ns n
-  seen_moved ns n h = known_alike e p p' ed ns n ∙ h
+  seen_moved ns n h = (
+    known_alike e p p' ed ns n ∙ h.0,
+    λ t.
+        let x = h.1 t in
+        record {
+          site = x.site;
+          is = site_moved e p p' ed n x.site x.is;
+          owner = ap (is_known p' ns) (site_owner e p p' ed n x.site x.is) ∙ known_alike e p p' ed ns x.is.owner ∙ x.owner;
+          interface = known_alike e p p' ed ns x.site.interface ∙ x.interface;
+        },
+  )
 
   all_seen_moved : (ns ms : List Name) → AllSeen p ns ms → AllSeen p' ns ms
   all_seen_moved ns [] h = tt
@@ -41,16 +51,6 @@ module _ (e : Edit) (p p' : Look) (ed : IsEdited e p p') where
 
   supers_moved : (ns : List Name) (n : Name) → AllSeen p ns (supers p n) → AllSeen p' ns (supers p' n)
   supers_moved ns n h = subst (AllSeen p' ns) (sym (supers_alike e p p' ed n)) (all_seen_moved ns (supers p n) h)
-
-  whole_moved : IsLibraryWhole p → IsLibraryWhole p'
-  whole_moved h = record {
-    supers = λ n l. supers_moved [] n (h.supers n (sym (class_alike e p p' ed is_library refl n) ∙ l));
-    faults = λ x. class_alike e p p' ed is_library refl (fault_name x) ∙ h.faults x;
-    makings = λ m. class_alike e p p' ed is_library refl (making_name m) ∙ h.makings m;
-    object = class_alike e p p' ed is_library refl object_name ∙ h.object;
-    text = class_alike e p p' ed is_library refl string_name ∙ h.text;
-    class = class_alike e p p' ed is_library refl class_name ∙ h.class;
-  }
 
   frames_moved : (ns : List Name) (fs : List Frame) → FramesSeen p ns fs → FramesSeen p' ns (map (moved_frame e) fs)
   frames_moved ns [] h = tt
@@ -76,7 +76,7 @@ module _ (e : Edit) (p p' : Look) (ed : IsEdited e p p') where
   lines_moved rs (Some x) fs h = all_moved rs fs h
 
   kept_moved : (s : MachineState) → Kept p s → Kept p' (moved_state e s)
-  kept_moved s h = ((frames_moved s.world.consulted s.frames h.0.0, heap_moved s.world.consulted s.world.heap h.0.1), lines_moved s.world.reached s.thrown s.frames h.1)
+  kept_moved s h = ((frames_moved s.world.consulted s.frames h.0.0, heap_moved s.world.consulted s.world.heap h.0.1, h.0.2), lines_moved s.world.reached s.thrown s.frames h.1)
 
 -- ---- whether a pair was reached
 
@@ -128,10 +128,7 @@ stands_at e p p' ed f fs cs hc hk ha =
     ∙ ap (λ at. place e.class (text e.class e.method) at) (edit_by e (is_edited e e.class e.method))
     ∙ ap (λ m. place e.class m e.at) (text_alike e p p' ed e.class e.method)
 
-module _ (e : Edit) (p p' : Look) (ed : IsEdited e p p') (whole : IsLibraryWhole p) (q : Limits) where
-  whole' : IsLibraryWhole p'
-  whole' = whole_moved e p p' ed whole
-
+module _ (e : Edit) (p p' : Look) (ed : IsEdited e p p') (whole : IsWhole p) (whole' : IsWhole p') (q : Limits) where
   -- a state whose top frame stands at the edited instruction reaches its line on the edited
   -- program, unless no row applies there
   at_edit : (place : Place) (n : ℕ) (w : World) (x : Option ℕ) (fs : List Frame) (go' : MachineState → Ran) → Kept p (record { frames = fs; thrown = x; world = w }) → AtEdit e x fs → ((t : MachineState) → Kept p' t → Grow t.world.reached (go' t).reached) → goes p' q w x (map (moved_frame e) fs) ≢ NoRow → ReachesLine e p (then_run (next_or place (goes p' q w x (map (moved_frame e) fs))) n go' w)
@@ -144,8 +141,8 @@ module _ (e : Edit) (p p' : Look) (ed : IsEdited e p p') (whole : IsLibraryWhole
       let k = kept_moved e p p' ed (record { frames = f ∷ fs; thrown = None; world = w }) h in
       let g = good_reaches p' whole' w.consulted w.reached (Unit {0}) q w mf mfs (kept p' (Unit {0}) (record { frames = mf ∷ mfs; thrown = None; world = w }) k.0 (λ l. k.1)) in
       let d = on_some (fetch p' mf) (λ i. act p' q i.here i.instruction v mf mfs) in
-      let fine : Fine p' w.consulted v.reached (Unit {0}) d = fine_some p' w.consulted v.reached (Unit {0}) (fetch p' mf) _ (λ i. fine_act p' whole' w.consulted v.reached (Unit {0}) q i.here i.instruction v mf mfs (g.0, g.1, g.2, λ c l y. y, g.4)) in
-      let grown = grow_past p' whole' q place n w v.reached go' d w.consulted fine rest past in
+      let fine : Fine p' w.consulted v.reached (Unit {0}) d = fine_at p' w.consulted v.reached (Unit {0}) (fetch p' mf) _ (λ i e. fine_act p' whole' w.consulted v.reached (Unit {0}) q i.here i.instruction v mf mfs e (g.0, g.1, g.2, λ c l y. y, g.4)) in
+      let grown = grow_past p' whole' q place n w v.reached go' d w.consulted fine (plain_goes p' q w None (mf ∷ mfs) h.0.2) rest past in
       let here : is_from_file (p' f.class) ≡ true = ap (λ c. is_from_file (p' c)) at.0 ∙ file_alike e p p' ed e.class ∙ from_file e p p' ed in
       let hit : Hit f.class (line_of p' mf) v.reached = subst (λ b. HitIf b f.class (line_of p' mf) v.reached) here (g.4 tt).0 in
       let line : line_of p' mf ≡ edited_line e p = line_alike e p p' ed f ∙ line_there e p f at.0 at.1 at.2 in
@@ -207,15 +204,15 @@ module _ (e : Edit) (p p' : Look) (ed : IsEdited e p p') (whole : IsLibraryWhole
   applies_alike on n s go' at applied past = goes_there on s.world s.thrown s.frames at applied
 
 pub reach_alike : RunsReachAlike
-reach_alike e p p' q left n s ed whole seen lines right = (
+reach_alike e p p' q left n s ed whole whole' seen lines right = (
   λ y. ⊎_elim (λ z. z) (λ miss. subst (ReachesLine e p) (unreached_alike e p p' q left n s ed whole seen lines right miss) y) (hit_or e.class (edited_line e p) (run_from p q left s n).reached),
-  reaches_too e p p' ed whole q (NotStuckAtEdit e p) (applies_past e p p' ed whole q) left n s (seen, lines) right,
+  reaches_too e p p' ed whole whole' q (NotStuckAtEdit e p) (applies_past e p p' ed whole whole' q) left n s (seen, lines) right,
 )
 
 pub reach_the_same : RunsReachTheSame
-reach_the_same e p p' q left n s ed on whole seen lines right = (
-  (reach_alike e p p' q left n s ed whole seen lines right).0,
-  reaches_too e p p' ed whole q (λ r. Unit {0}) (applies_alike e p p' ed whole q on) left n s (seen, lines) right tt,
+reach_the_same e p p' q left n s ed on whole whole' seen lines right = (
+  (reach_alike e p p' q left n s ed whole whole' seen lines right).0,
+  reaches_too e p p' ed whole whole' q (λ r. Unit {0}) (applies_alike e p p' ed whole whole' q on) left n s (seen, lines) right tt,
 )
 
 -- ---- tests
@@ -229,28 +226,28 @@ under_limit : (p : Look) (t : Test) (q : Limits) (limit : ℕ) → HasEnded (run
 under_limit p t q limit h = let n = (run_of p t q limit).steps in same_limits p q limit (limit_of n) 0 (start p t) h (omega arith)
 
 pub tests_unreached : TestsAlikeUnreached
-tests_unreached e p p' t q limit ed whole h miss =
+tests_unreached e p p' t q limit ed whole plain h miss =
     let r = run_of p t q limit in
     let l = limit_of r.steps in
     let same : run_of p t q l ≡ r = under_limit p t q limit h in
     ap (λ s. run_from p' q l s 0) (start_alike e p p' ed t)
-    ∙ unreached_alike e p p' q l 0 (start p t) ed whole (tt, tt) tt (subst (λ x. WentRight x.ending) (sym same) (ended_right r.ending h)) (λ y. miss (subst (ReachesLine e p) same y))
+    ∙ unreached_alike e p p' q l 0 (start p t) ed whole (tt, tt, plain.1) tt (subst (λ x. WentRight x.ending) (sym same) (ended_right r.ending h)) (λ y. miss (subst (ReachesLine e p) same y))
     ∙ same
 
 pub tests_reach : TestsReachAlike
-tests_reach e p p' t q limit ed whole h =
+tests_reach e p p' t q limit ed whole whole' plain h =
     let r = run_of p t q limit in
     let l = limit_of r.steps in
     let same : run_of p t q l ≡ r = under_limit p t q limit h in
     let begun : run_of p' t q l ≡ run_from p' q l (start p t) 0 = ap (λ s. run_from p' q l s 0) (start_alike e p p' ed t) in
     subst (λ x. ReachAlike e p x (run_of p' t q l)) same (subst (ReachAlike e p (run_of p t q l)) (sym begun)
-    (reach_alike e p p' q l 0 (start p t) ed whole (tt, tt) tt (subst (λ x. WentRight x.ending) (sym same) (ended_right r.ending h))))
+    (reach_alike e p p' q l 0 (start p t) ed whole whole' (tt, tt, plain.1) tt (subst (λ x. WentRight x.ending) (sym same) (ended_right r.ending h))))
 
 pub tests_reach_the_same : TestsReachTheSame
-tests_reach_the_same e p p' t q limit ed on whole h =
+tests_reach_the_same e p p' t q limit ed on whole whole' plain h =
     let r = run_of p t q limit in
     let l = limit_of r.steps in
     let same : run_of p t q l ≡ r = under_limit p t q limit h in
     let begun : run_of p' t q l ≡ run_from p' q l (start p t) 0 = ap (λ s. run_from p' q l s 0) (start_alike e p p' ed t) in
     subst (λ x. ReachTheSame e p x (run_of p' t q l)) same (subst (ReachTheSame e p (run_of p t q l)) (sym begun)
-    (reach_the_same e p p' q l 0 (start p t) ed on whole (tt, tt) tt (subst (λ x. WentRight x.ending) (sym same) (ended_right r.ending h))))
+    (reach_the_same e p p' q l 0 (start p t) ed on whole whole' (tt, tt, plain.1) tt (subst (λ x. WentRight x.ending) (sym same) (ended_right r.ending h))))

@@ -1,4 +1,4 @@
--- The small parts of rows: what is so of the monitors, of the lines that were reached and of the
+-- The small parts of rows: what is so of the monitors, of what a world has besides, and of the
 -- names that were consulted before a part is so behind it.
 use Rattle.std.proofs.Common.{ℕ, ◌+◌, ◌++◌, Bool, true, false, List, [], ◌∷◌, length, Option, Some, None}
 use Rattle.std.specs.Prelude.{ℤ, nat_lt, nat_le, if◌then◌else◌}
@@ -13,6 +13,7 @@ use Rattle.program_rules.specs.Faults.{Answer, Found, Fails}
 use Rattle.program_rules.specs.Outlines.{is_present}
 use Rattle.program_rules.specs.Programs.{Look, Family, family, consulted_with}
 use Rattle.program_rules.specs.Objects.{Object, object_at}
+use Rattle.program_rules.specs.Tests.{Call}
 use Rattle.machine_rules.specs.State.{Frame, World}
 use Rattle.machine_rules.specs.Effects.{Effect, Goes, NoRow, on_some, on_top, on_int, on_ints, on_long, on_longs, on_reference, on_kind, is_wide, on_word, on_two_words, on_reversed, lays, pushes, locals_of, allocate, unless_full, fault_object, throws, on_found, unless_null, enters}
 use Rattle.machine_rules.specs.Lookups.{consult, resolves, Known, known_of, on_known}
@@ -25,19 +26,28 @@ Monitors = List (ℕ × ℕ)
 abbrev pub Lines : Type 0
 Lines = List (Name × ℕ)
 
--- A fact of the monitors, the lines that were reached and the names that were consulted.
+-- What a world has besides: the lines that were reached, the exception that is expected, and the
+-- rest of the script.
+abbrev pub Told : Type 0
+Told = Lines × Option Name × List Call
+
+-- The same of a world.
+abbrev pub told : World → Told
+told w = (w.reached, w.expected, w.script)
+
+-- A fact of the monitors, of what a world has besides, and of the names that were consulted.
 abbrev pub Fact : Type 1
-Fact = Monitors → Lines → List Name → Type 0
+Fact = Monitors → Told → List Name → Type 0
 
 -- It holds of a world.
 abbrev pub Holds : Fact → World → Type 0
-Holds P w = P w.monitors w.reached w.consulted
+Holds P w = P w.monitors (told w) w.consulted
 
 -- It stays so where a class is consulted.
 abbrev pub Closed : Fact → Look → Type 0
 Closed P p =
-    (n : Name) (ms : Monitors) (rs : Lines) (ns : List Name) → P ms rs ns →
-    P ms rs (consulted_with p n ns)
+    (n : Name) (ms : Monitors) (ts : Told) (ns : List Name) → P ms ts ns →
+    P ms ts (consulted_with p n ns)
 
 -- A fact of the state that goes on, if one does.
 abbrev pub Retains : Fact → Effect → Type 0
@@ -207,7 +217,7 @@ module _ (P : Fact) where
   retains_resolves p closed q w fs n go h k =
       let u = consult p (class_behind n) w in
       let c = family p (class_behind n) in
-      let g : Holds P u = closed (class_behind n) w.monitors w.reached w.consulted h in
+      let g : Holds P u = closed (class_behind n) w.monitors (told w) w.consulted h in
       retains_if (is_present c.class) _ _ (k u c g) (retains_throws q u fs NoClassDefFoundError g)
 
   pub retains_known :

@@ -11,7 +11,7 @@ use Rattle.machine_rules.specs.declared.machine.Limits.{Limits}
 use Rattle.program_rules.specs.Names.{Name, same, is_listed, class_behind, plain_descriptor}
 use Rattle.program_rules.specs.Kinds.{Kind, is_int_kind, is_long_kind, is_of_kind, reversed_onto}
 use Rattle.program_rules.specs.Instructions.{MethodRef}
-use Rattle.program_rules.specs.Linked.{is_static, is_private, method_in}
+use Rattle.program_rules.specs.Linked.{is_static, method_in}
 use Rattle.program_rules.specs.declared.fault.Fault.TheVariants.{IncompatibleClassChangeError, AbstractMethodError, ExceptionInInitializerError}
 use Rattle.program_rules.specs.Faults.{Answer}
 use Rattle.program_rules.specs.Outlines.{Callable, Written, Natively, Copies, Abstractly, interfaces_in}
@@ -26,12 +26,23 @@ use Rattle.machine_rules.specs.Lookups.{consult, methods_of, is_instance}
 use Rattle.machine_rules.specs.NewObjects.{new_object}
 use Rattle.machine_rules.specs.Initialisation.{marks}
 use Rattle.machine_rules.specs.Performing.{NativeResult, Returns, Raises, ReturnsWithin, HeapFull, NoResult, performs}
-use Rattle.machine_rules.specs.Calls.{goes_on, ends_native, calls, calls_method, static_method_at, invokes, invokes_static, on_receiver, virtual_at, invokes_virtual, interface_at, invokes_interface, calls_above, special_from, special_at, invokes_special, room_of, is_awaited, returns, returns_int, returns_long, is_reference_kind, returns_reference, returns_plain}
+use Rattle.machine_rules.specs.Calls.{is_refused, select_interface, goes_on, ends_native, calls, calls_method, static_method_at, invokes, invokes_static, on_receiver, virtual_at, invokes_virtual, interface_at, invokes_interface, calls_above, special_from, special_at, invokes_special, room_of, is_awaited, returns, returns_int, returns_long, is_reference_kind, returns_reference, returns_plain}
 use Rattle.machine_rules.specs.Throwing.{rows_of, matches, find_handler, expects, pops, breaks, is_initializer_method, pops_frame, lands, unwinds}
 use Rattle.machine_rules.specs.Script.{needs_static, begins_call, makes_once_ready, calls_instance, calls_kind, calls_next}
-use Rattle.machine_laws.proofs.Retaining.{Fact, Closed, Holds, Retains, allocated_made, retains_some, retains_if, retains_test, retains_top, retains_int, retains_long, retains_reference, retains_reversed, retains_pushes, retains_full, retains_throws, retains_found, retains_null, retains_enters, retains_resolves, retains_known}
+use Rattle.machine_laws.proofs.Retaining.{Monitors, Lines, told, Fact, Closed, Holds, Retains, allocated_made, retains_some, retains_if, retains_test, retains_top, retains_int, retains_long, retains_reference, retains_reversed, retains_pushes, retains_full, retains_throws, retains_found, retains_null, retains_enters, retains_resolves, retains_known}
 use Rattle.machine_laws.proofs.RetainingWorlds.{RetainsResult, deeds_retain, retains_handler, retains_ready}
 use Rattle.machine_laws.proofs.RetainingRows.{retains_copies}
+
+-- What is so of a world is so of it with this script.
+abbrev pub Takes : Fact → List Call → Type 0
+Takes P rest =
+    (ms : Monitors) (rs : Lines) (o : Option Name) (cs : List Call) (ns : List Name) →
+    P ms (rs, o, cs) ns → P ms (rs, o, rest) ns
+
+-- What is so of a world is so of it with the rest of the script.
+abbrev pub Cuts : Fact → List Call → Type 0
+Cuts P [] = Unit {0}
+Cuts P (c ∷ rest) = Takes P rest
 
 module _ (P : Fact) (p : Look) (closed : Closed P p) (q : Limits) where
   -- ---- a method that was found is called
@@ -141,11 +152,11 @@ module _ (P : Fact) (p : Look) (closed : Closed P p) (q : Limits) where
       (f : Frame) (fs : List Frame) (room : ℕ) (r : MethodRef) (w : World) (m : MethodAt) →
       Holds P w → Retains P (interface_at p q f fs room r w m)
   interface_case f fs room r w m h =
-      retains_if P (is_static m.flags || is_private m.flags) _ _
+      retains_if P (is_refused f m) _ _
       (retains_throws P q w (f ∷ fs) IncompatibleClassChangeError h)
       (receiver_case w f fs r _ h (λ x args rest. retains_known P p w x _ (λ o.
       retains_if P (is_instance o r.class) _ _
-      (found_case w f fs room args rest (select_named r (methods_of o)) h)
+      (found_case w f fs room args rest (select_interface r m (methods_of o)) h)
       (retains_throws P q w (f ∷ fs) IncompatibleClassChangeError h))))
 
   pub retains_invokes_interface :
@@ -164,7 +175,7 @@ module _ (P : Fact) (p : Look) (closed : Closed P p) (q : Limits) where
   above_case f fs room r args rest w [] h = tt
   above_case f fs room r args rest w (n ∷ ns) h =
       found_case (consult p n w) f fs room args rest (select_named r (family p n))
-      (closed n w.monitors w.reached w.consulted h)
+      (closed n w.monitors (told w) w.consulted h)
 
   from_case :
       (f : Frame) (fs : List Frame) (room : ℕ) (r : MethodRef) (m : MethodAt)
@@ -184,7 +195,7 @@ module _ (P : Fact) (p : Look) (closed : Closed P p) (q : Limits) where
       (receiver_case w f fs r _ h (λ x args rest. retains_if P (is_initializer_name r.name) _ _
       (method_case w f fs room args rest m h)
       (from_case f fs room r m args rest (consult p f.class w) (family p f.class)
-      (closed f.class w.monitors w.reached w.consulted h))))
+      (closed f.class w.monitors (told w) w.consulted h))))
 
   pub retains_invokes_special :
       (w : World) (f : Frame) (fs : List Frame) (room : ℕ) (r : MethodRef) →
@@ -240,7 +251,7 @@ module _ (P : Fact) (p : Look) (closed : Closed P p) (q : Limits) where
   expects_case w x names None h = tt
   expects_case w x names (Some n) h =
       let u = consult p (class_behind n) w in
-      let g : Holds P u = closed (class_behind n) w.monitors w.reached w.consulted h in
+      let g : Holds P u = closed (class_behind n) w.monitors (told w) w.consulted h in
       retains_if P (matches names n (family p (class_behind n)).class) _ _ g g
 
   pops_case :
@@ -285,46 +296,47 @@ module _ (P : Fact) (p : Look) (closed : Closed P p) (q : Limits) where
 
   begins_case :
       (w : World) (c : Call) (rest : List Call) (k : ℕ) (args : List Value) (a : Callable) →
-      Holds P w → Retains P (begins_call q w c rest k args a)
-  begins_case w c rest k args (Written n) h =
-      retains_enters P q (record w { running = Some c; script = rest }) [] c.class k n args h
-  begins_case w c rest k args (Natively n) h = tt
-  begins_case w c rest k args Copies h = tt
-  begins_case w c rest k args Abstractly h = tt
+      Takes P rest → Holds P w → Retains P (begins_call q w c rest k args a)
+  begins_case w c rest k args (Written n) cut h =
+      retains_enters P q (record w { running = Some c; script = rest }) [] c.class k n args
+      (cut w.monitors w.reached w.expected w.script w.consulted h)
+  begins_case w c rest k args (Natively n) cut h = tt
+  begins_case w c rest k args Copies cut h = tt
+  begins_case w c rest k args Abstractly cut h = tt
 
   instance_case :
-      (w : World) (c : Call) (rest : List Call) (m : MethodAt) → Holds P w →
+      (w : World) (c : Call) (rest : List Call) (m : MethodAt) → Takes P rest → Holds P w →
       Retains P (calls_instance q w c rest m)
-  instance_case w c rest m h =
-      retains_some P w.instance _ (λ x. begins_case w c rest m.place (Ref x ∷ []) m.callable h)
+  instance_case w c rest m cut h =
+      retains_some P w.instance _ (λ x.
+      begins_case w c rest m.place (Ref x ∷ []) m.callable cut h)
 
   makes_case :
-      (c : Call) (rest : List Call) (m : MethodAt) (w : World) (d : Family) →
-      Holds P w →
-      Retains P (makes_once_ready q c rest m w d)
-  makes_case c rest m w d h =
+      (c : Call) (rest : List Call) (m : MethodAt) (w : World) (d : Family) → Takes P rest →
+      Holds P w → Retains P (makes_once_ready q c rest m w d)
+  makes_case c rest m w d cut h =
       let o = new_object c.class d.rising in
       retains_full P w [] (allocate q w o (words_of d.rising)) _ h
       (allocated_made P q w o (words_of d.rising) h) (λ a k.
-      begins_case (record a.0 { instance = Some a.1 }) c rest m.place (Ref a.1 ∷ []) m.callable k)
+      begins_case (record a.0 { instance = Some a.1 }) c rest m.place (Ref a.1 ∷ []) m.callable cut k)
 
   kind_case :
-      (w : World) (c : Call) (rest : List Call) (m : MethodAt) (kind : CallKind) →
-      Holds P w →
-      Retains P (calls_kind p q w c rest m kind)
-  kind_case w c rest m ClassWide h =
-      retains_ready P q p closed w [] c.class _ h (λ u d k. begins_case u c rest m.place [] m.callable k)
-  kind_case w c rest m Make h =
-      retains_ready P q p closed w [] c.class _ h (λ u d k. makes_case c rest m u d k)
-  kind_case w c rest m Around h = instance_case w c rest m h
-  kind_case w c rest m TestMethod h = instance_case w c rest m h
+      (w : World) (c : Call) (rest : List Call) (m : MethodAt) (kind : CallKind) → Takes P rest →
+      Holds P w → Retains P (calls_kind p q w c rest m kind)
+  kind_case w c rest m ClassWide cut h =
+      retains_ready P q p closed w [] c.class _ h (λ u d k.
+      begins_case u c rest m.place [] m.callable cut k)
+  kind_case w c rest m Make cut h =
+      retains_ready P q p closed w [] c.class _ h (λ u d k. makes_case c rest m u d cut k)
+  kind_case w c rest m Around cut h = instance_case w c rest m cut h
+  kind_case w c rest m TestMethod cut h = instance_case w c rest m cut h
 
   pub retains_calls_next :
-      (w : World) (cs : List Call) → Holds P w → Retains P (calls_next p q w cs)
-  retains_calls_next w [] h = tt
-  retains_calls_next w (c ∷ rest) h =
+      (w : World) (cs : List Call) → Cuts P cs → Holds P w → Retains P (calls_next p q w cs)
+  retains_calls_next w [] cut h = tt
+  retains_calls_next w (c ∷ rest) cut h =
       let d = family p c.class in
       retains_some P (first_declared c.method plain_descriptor (take 1 d.rising)) _ (λ m.
       retains_test P (same_bool (is_static m.flags) (needs_static c.kind)) _
-      (kind_case (consult p c.class w) c rest m c.kind
-      (closed c.class w.monitors w.reached w.consulted h)))
+      (kind_case (consult p c.class w) c rest m c.kind cut
+      (closed c.class w.monitors (told w) w.consulted h)))

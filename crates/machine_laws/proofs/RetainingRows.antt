@@ -8,20 +8,21 @@ use Rattle.program_rules.specs.declared.value.Value.{Value}
 use Rattle.program_rules.specs.declared.value.Value.TheVariants.{Int, Long, Ref, Null}
 use Rattle.machine_rules.specs.declared.machine.Limits.{Limits}
 use Rattle.program_rules.specs.Names.{Name, class_behind, is_array_name}
-use Rattle.program_rules.specs.Kinds.{Kind, narrow, OfBoolean, OfByte, OfChar, OfShort, OfInt, OfLong, OfReference}
+use Rattle.program_rules.specs.Kinds.{reversed_onto, Kind, narrow, OfBoolean, OfByte, OfChar, OfShort, OfInt, OfLong, OfReference}
 use Rattle.program_rules.specs.declared.operation.Element.{Element}
 use Rattle.program_rules.specs.declared.operation.Operation.{Operation}
 use Rattle.program_rules.specs.declared.operation.Conversion.{Conversion}
 use Rattle.program_rules.specs.declared.operation.Conversion.TheVariants.{IntToLong, LongToInt, IntToByte, IntToChar, IntToShort}
 use Rattle.program_rules.specs.declared.fault.Fault.TheVariants.{ArithmeticException, ArrayIndexOutOfBoundsException, NegativeArraySizeException, ArrayStoreException, ClassCastException, InstantiationError, IncompatibleClassChangeError}
-use Rattle.program_rules.specs.Instructions.{FieldRef}
-use Rattle.program_rules.specs.Outlines.{is_abstract_class}
+use Rattle.program_rules.specs.Instructions.{FieldRef, DynamicRef}
+use Rattle.machine_rules.specs.DynamicRows.{site_in, adapter_name, narrowed, adapter_object, makes_holding, makes_adapter}
+use Rattle.program_rules.specs.Outlines.{is_abstract_class, is_interface_class}
 use Rattle.program_rules.specs.Programs.{Look, Family}
 use Rattle.program_rules.specs.Objects.{Object, object_at}
 use Rattle.program_rules.specs.Layout.{words_of}
 use Rattle.program_rules.specs.Resolution.{FieldAt, resolve_field}
 use Rattle.machine_rules.specs.State.{Frame, World}
-use Rattle.machine_rules.specs.Effects.{Effect, NoRow, jumps, unless_full}
+use Rattle.machine_rules.specs.Effects.{Effect, NoRow, jumps, allocate, unless_full}
 use Rattle.machine_rules.specs.Arithmetic.{divides_by_zero}
 use Rattle.machine_rules.specs.Lookups.{is_array, is_instance}
 use Rattle.machine_rules.specs.NewObjects.{array_of, new_array, new_arrays, new_object, literal, object_of_class}
@@ -29,7 +30,7 @@ use Rattle.machine_rules.specs.Fields.{reads_static, writes_static, static_in, g
 use Rattle.machine_rules.specs.Arrays.{array_kind, on_array, serves, taken_by, element_at, if_inside, on_element, loads_element, fits_component, if_storable, stores_element, measures_array, on_count, pushes_new, makes_array, makes_primitive_array, makes_reference_array, on_counts, has_dimensions, makes_arrays, copies}
 use Rattle.machine_rules.specs.TypeRows.{loads_text, loads_class, makes_object, casts_to, casts, truth, tests_for, tests, throws_object}
 use Rattle.machine_rules.specs.Steps.{int_local, long_local, reference_local, loads_int, loads_long, loads_reference, stores_int, stores_long, stores_reference, increments, pops_word, pops_two, doubles, doubles_under_one, doubles_under_two, doubles_two, doubles_two_under_one, doubles_two_under_two, swaps, operates_int, operates_long, converts}
-use Rattle.machine_laws.proofs.Retaining.{Fact, Closed, Holds, Retains, RetainsMade, allocated_made, retains_some, retains_if, retains_test, retains_int, retains_ints, retains_long, retains_longs, retains_reference, retains_kind, retains_word, retains_two, retains_lays, retains_pushes, retains_full, retains_throws, retains_found, retains_null, retains_resolves, retains_known}
+use Rattle.machine_laws.proofs.Retaining.{Fact, Closed, Holds, Retains, RetainsMade, allocated_made, retains_some, retains_if, retains_test, retains_int, retains_ints, retains_long, retains_longs, retains_reference, retains_kind, retains_reversed, retains_word, retains_two, retains_lays, retains_pushes, retains_full, retains_throws, retains_found, retains_null, retains_resolves, retains_known}
 use Rattle.machine_laws.proofs.RetainingWorlds.{literal_made, class_made, array_made, arrays_made, retains_ready}
 
 -- ---- rows that touch the frame alone
@@ -359,3 +360,24 @@ module _ (P : Fact) (p : Look) (closed : Closed P p) (q : Limits) (w : World) (f
       instance_case u (writes_field q u f fs) x k
       (retains_kind P x.kind f.stack _ (λ v rest. retains_reference P rest _ (λ o below.
       owner_case u o _ k (λ n b. retains_test P (nat_lt x.slot (length b.values)) _ k))))))
+
+  -- ---- lambdas and method references
+
+  holding_case :
+      (room : ℕ) (n : Name) (ks : List Kind) (vs rest : List Value) (u : World) →
+      Holds P u → Retains P (makes_holding q u f fs room n ks vs rest)
+  holding_case room n ks vs rest u k =
+      let o = adapter_object n (narrowed ks vs) in
+      retains_full P u (f ∷ fs) (allocate q u o (1 + length (narrowed ks vs))) _ k
+      (allocated_made P q u o (1 + length (narrowed ks vs)) k) (λ a m.
+      retains_pushes P a.0 f fs room (Ref a.1) rest m)
+
+  pub retains_makes_adapter :
+      (room : ℕ) (r : DynamicRef) → Retains P (makes_adapter p q w f fs room r)
+  retains_makes_adapter room r =
+      retains_some P (site_in f.class (p f.class) r) _ (λ s.
+      retains_resolves P p closed q w (f ∷ fs) s.interface _ h (λ u c k.
+      retains_if P (is_interface_class c.class) _ _
+      (retains_reversed P (reversed_onto s.captured []) [] f.stack _ (λ vs rest.
+      holding_case room (adapter_name (p f.class) f) s.captured vs rest u k))
+      (retains_throws P q u (f ∷ fs) IncompatibleClassChangeError k)))

@@ -20,7 +20,7 @@ use Rattle.machine_rules.specs.NewObjects.{made_for, text_object, class_object, 
 use Rattle.machine_rules.specs.Initialisation.{Constant, ClassBegin, Initializer, Need, Ready, Begins, Failing, need_of, with_text, sets_constant, then_world, sets_constants, done_with, runs_initializer, begins_with, when_needed, when_ready}
 use Rattle.machine_rules.specs.Performing.{NativeResult, Returns, Raises, ReturnsWithin, HeapFull, NoResult, performs, perform_change, perform_boxing, box_among, number_of, perform_class}
 use Rattle.machine_rules.specs.Throwing.{Caught, matches, chooses, catch_by, find_handler}
-use Rattle.machine_laws.proofs.Retaining.{Fact, Closed, Holds, Retains, RetainsMade, allocated_made, retains_if, retains_throws, retains_enters}
+use Rattle.machine_laws.proofs.Retaining.{Fact, told, Closed, Holds, Retains, RetainsMade, allocated_made, retains_if, retains_throws, retains_enters}
 
 -- A fact of the monitors and the lines of a world, if the heap had room for it.
 abbrev RetainsWorld : Fact → Option World → Type 0
@@ -189,7 +189,7 @@ module _ (P : Fact) (q : Limits) where
   retains_ready p closed w fs n go h k =
       let u = consult p n w in
       let c = family p n in
-      let g : Holds P u = closed n w.monitors w.reached w.consulted h in
+      let g : Holds P u = closed n w.monitors (told w) w.consulted h in
       need_case u fs (need_of u.inits c) _ g (k u c g)
 
 -- ---- natives, by one pass over the deeds
@@ -245,7 +245,7 @@ module _ (P : Fact) (p : Look) (closed : Closed P p) (names : List Name) where
   catch_case (Some n) to w rest h k =
       choice_case (matches names n (outline_of (p (class_behind n))))
       (consult p (class_behind n) w) to rest
-      (closed (class_behind n) w.monitors w.reached w.consulted h) k
+      (closed (class_behind n) w.monitors (told w) w.consulted h) k
 
   covers_case :
       (b : Bool) (x y : Caught) → Holds P x.world →

@@ -15,7 +15,7 @@ use Rattle.machine_rules.specs.Outcomes.{Outcome, Passed, Failed, TimedOut, Memo
 use Rattle.program_rules.specs.Objects.{Object}
 use Rattle.program_rules.specs.Tests.{Call}
 use Rattle.machine_rules.specs.Runs.{With, StuckAt, Ran, then_run, run_from}
-use Rattle.machine_laws.specs.Consulted.{FramesSeen, IsLibraryWhole, IsConsulted}
+use Rattle.machine_laws.specs.Consulted.{FramesSeen, IsWhole, IsConsulted}
 use Rattle.machine_laws.specs.FrameLaw.{IfNext, IsEnd}
 use Rattle.machine_laws.specs.Walks.{consult_all, Comes, RunsConsultWalks, LinesAreListed, RunsListLines, RunsKeepLimits}
 use Rattle.machine_laws.proofs.Monitors.{LineStep, runs_file, running_class, running_line, steps_walk, steps_line}
@@ -118,7 +118,7 @@ module _ (p : Look) where
 
   own_frame : (x : Option ℕ) (fs : List Frame) (ns : List Name) → FramesSeen p ns fs → runs_file p x fs ≡ true → (is_listed (running_class fs) ns ≡ true) × (is_from_file (p (running_class fs)) ≡ true)
   own_frame None [] ns seen h = absurd cc
-  own_frame None (f ∷ fs) ns seen h = (file_case (p f.class) (is_listed f.class ns) h seen.0, h)
+  own_frame None (f ∷ fs) ns seen h = (file_case (p f.class) (is_listed f.class ns) h seen.0.0, h)
   own_frame (Some x) fs ns seen h = absurd cc
 
   next_case : (s : MachineState) (d : Stepped) → IsConsulted p s → LinesAreListed p s.world.consulted s.world.reached → IfNext d (λ t. Comes p s.world.consulted t.world.consulted) → IfNext d (λ t. LineStep s.world.reached (runs_file p s.thrown s.frames) (running_class s.frames) (running_line p s.frames) t.world.reached) → IfNext d (λ t. LinesAreListed p t.world.consulted t.world.reached)
@@ -131,7 +131,7 @@ module _ (p : Look) where
   then_lines (Ended o) n go w all seen h rest = all
   then_lines (Stuck place) n go w all seen h rest = all
 
-  lines_from : IsLibraryWhole p → (q : Limits) (k n : ℕ) (s : MachineState) → IsConsulted p s → LinesAreListed p s.world.consulted s.world.reached → LinesAreListed p (run_from p q k s n).consulted (run_from p q k s n).reached
+  lines_from : IsWhole p → (q : Limits) (k n : ℕ) (s : MachineState) → IsConsulted p s → LinesAreListed p s.world.consulted s.world.reached → LinesAreListed p (run_from p q k s n).consulted (run_from p q k s n).reached
   lines_from whole q zero n s seen all = all
   lines_from whole q (suc k) n s seen all =
       then_lines (step_of p q s) n (λ t. run_from p q k t (suc n)) s.world all (stay_consulted p q s whole seen)
@@ -139,7 +139,7 @@ module _ (p : Look) where
       (λ t c h. lines_from whole q k (suc n) t c h)
 
 pub runs_lines : RunsListLines
-runs_lines p t q limit whole = lines_from p whole q limit 0 (start p t) (tt, tt) (λ c l h. absurd cc)
+runs_lines p t q limit whole plain = lines_from p whole q limit 0 (start p t) (tt, tt, plain.1) (λ c l h. absurd cc)
 
 -- ---- limits
 

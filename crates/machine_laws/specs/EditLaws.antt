@@ -1,14 +1,19 @@
 -- Until the edited instruction is reached, the edited program runs as the program.
-use Rattle.std.specs.Prelude.{◌≡◌, ◌≢◌, ℕ, zero, suc, true, List, [], ◌∷◌, map, None}
+use Rattle.std.specs.Prelude.{◌≡◌, ◌≢◌, ℕ, zero, suc, true, List, [], ◌∷◌, map, Some, None, slice_get}
 use Rattle.machine_rules.specs.declared.machine.Limits.{Limits}
 use Rattle.program_rules.specs.Linked.{method_in}
+use Rattle.program_rules.specs.Instructions.{Instruction}
+use Rattle.program_rules.specs.Names.{Name}
+use Rattle.program_rules.specs.Sites.{Site}
+use Rattle.program_rules.specs.Adapted.{IsSite, HasAdapters}
 use Rattle.program_rules.specs.Programs.{Look}
 use Rattle.program_rules.specs.Tests.{Test}
 use Rattle.machine_rules.specs.State.{Frame, World, MachineState}
 use Rattle.machine_rules.specs.Effects.{NoRow}
 use Rattle.machine_rules.specs.Steps.{Stepped, Next, Ended, Stuck, Place, method_text, outcome_of, goes, step_of}
 use Rattle.machine_rules.specs.Runs.{StuckAt, Ran, run_from, run_of, limit_of}
-use Rattle.machine_laws.specs.Consulted.{Hit, IsLibraryWhole, IsConsulted, IsReached}
+use Rattle.machine_laws.specs.Plain.{ArePlain, named_by, TestPlain}
+use Rattle.machine_laws.specs.Consulted.{Hit, IsWhole, IsConsulted, IsReached}
 use Rattle.machine_laws.specs.FrameLaw.{WentRight, IfNext, HasEnded}
 use Rattle.machine_laws.specs.Edit.{Edit, is_edited, place_in, IsEdited, edited_line}
 
@@ -76,7 +81,7 @@ ReachesLine e p r = Hit e.class (edited_line e p) r.reached
 abbrev pub RunsAlikeUnreached : Type 0
 RunsAlikeUnreached =
     (e : Edit) (p p' : Look) (q : Limits) (left n : ℕ) (s : MachineState) → IsEdited e p p' →
-    IsLibraryWhole p → IsConsulted p s → IsReached p s →
+    IsWhole p → IsConsulted p s → IsReached p s →
     WentRight (run_from p q left s n).ending → (ReachesLine e p (run_from p q left s n) → ⊥) →
     run_from p' q left (moved_state e s) n ≡ run_from p q left s n
 
@@ -105,7 +110,7 @@ ReachAlike e p r r' =
 abbrev pub RunsReachAlike : Type 0
 RunsReachAlike =
     (e : Edit) (p p' : Look) (q : Limits) (left n : ℕ) (s : MachineState) → IsEdited e p p' →
-    IsLibraryWhole p → IsConsulted p s → IsReached p s →
+    IsWhole p → IsWhole p' → IsConsulted p s → IsReached p s →
     WentRight (run_from p q left s n).ending →
     ReachAlike e p (run_from p q left s n) (run_from p' q left (moved_state e s) n)
 
@@ -128,9 +133,29 @@ ReachTheSame e p r r' =
 abbrev pub RunsReachTheSame : Type 0
 RunsReachTheSame =
     (e : Edit) (p p' : Look) (q : Limits) (left n : ℕ) (s : MachineState) → IsEdited e p p' →
-    GoesOnAlike e p p' → IsLibraryWhole p → IsConsulted p s → IsReached p s →
+    GoesOnAlike e p p' → IsWhole p → IsWhole p' → IsConsulted p s → IsReached p s →
     WentRight (run_from p q left s n).ending →
     ReachTheSame e p (run_from p q left s n) (run_from p' q left (moved_state e s) n)
+
+-- Each site stays, with its number, and so with its adapter.
+abbrev pub SitesStay : Type 0
+SitesStay =
+    (e : Edit) (p p' : Look) → IsEdited e p p' → (own : Name) (s : Site) → IsSite p own s →
+    IsSite p' own s
+
+-- The edited program has the adapters of the program, and they are those of its sites.
+abbrev pub AdaptersStay : Type 0
+AdaptersStay = (e : Edit) (p p' : Look) → IsEdited e p p' → HasAdapters p → HasAdapters p'
+
+-- No instruction that is put in names an adapter.
+abbrev pub PutsPlain : Edit → Type 0
+PutsPlain e =
+    (at : ℕ) (i : Instruction) → slice_get (e.first ∷ e.rest) at ≡ Some i → ArePlain (named_by i)
+
+-- The frame law holds of the edited program as it does of the program.
+abbrev pub StaysWhole : Type 0
+StaysWhole =
+    (e : Edit) (p p' : Look) → IsEdited e p p' → PutsPlain e → IsWhole p → IsWhole p'
 
 -- ---- tests, each mutant's run under the limit that its original run gives
 
@@ -142,7 +167,7 @@ mutant_run p' t q original = run_of p' t q (limit_of original.steps)
 abbrev pub TestsAlikeUnreached : Type 0
 TestsAlikeUnreached =
     (e : Edit) (p p' : Look) (t : Test) (q : Limits) (limit : ℕ) → IsEdited e p p' →
-    IsLibraryWhole p → HasEnded (run_of p t q limit).ending →
+    IsWhole p → TestPlain t → HasEnded (run_of p t q limit).ending →
     (ReachesLine e p (run_of p t q limit) → ⊥) →
     mutant_run p' t q (run_of p t q limit) ≡ run_of p t q limit
 
@@ -150,7 +175,7 @@ TestsAlikeUnreached =
 abbrev pub TestsReachAlike : Type 0
 TestsReachAlike =
     (e : Edit) (p p' : Look) (t : Test) (q : Limits) (limit : ℕ) → IsEdited e p p' →
-    IsLibraryWhole p → HasEnded (run_of p t q limit).ending →
+    IsWhole p → IsWhole p' → TestPlain t → HasEnded (run_of p t q limit).ending →
     ReachAlike e p (run_of p t q limit) (mutant_run p' t q (run_of p t q limit))
 
 -- A test that ended reaches the edited line on the program exactly where it does on the edited
@@ -158,5 +183,6 @@ TestsReachAlike =
 abbrev pub TestsReachTheSame : Type 0
 TestsReachTheSame =
     (e : Edit) (p p' : Look) (t : Test) (q : Limits) (limit : ℕ) → IsEdited e p p' →
-    GoesOnAlike e p p' → IsLibraryWhole p → HasEnded (run_of p t q limit).ending →
+    GoesOnAlike e p p' → IsWhole p → IsWhole p' → TestPlain t →
+    HasEnded (run_of p t q limit).ending →
     ReachTheSame e p (run_of p t q limit) (mutant_run p' t q (run_of p t q limit))

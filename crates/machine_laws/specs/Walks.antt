@@ -9,7 +9,8 @@ use Rattle.program_rules.specs.Tests.{Test}
 use Rattle.machine_rules.specs.State.{MachineState}
 use Rattle.machine_rules.specs.Steps.{is_reached, step_of}
 use Rattle.machine_rules.specs.Runs.{With, run_of}
-use Rattle.machine_laws.specs.Consulted.{IsLibraryWhole}
+use Rattle.machine_laws.specs.Consulted.{IsWhole}
+use Rattle.machine_laws.specs.Plain.{TestPlain}
 use Rattle.machine_laws.specs.FrameLaw.{IfNext}
 
 -- These classes are consulted one after the other, each with all above it.
@@ -41,7 +42,7 @@ LinesAreListed p ns rs =
 
 abbrev pub RunsListLines : Type 0
 RunsListLines =
-    (p : Look) (t : Test) (q : Limits) (limit : ℕ) → IsLibraryWhole p →
+    (p : Look) (t : Test) (q : Limits) (limit : ℕ) → IsWhole p → TestPlain t →
     LinesAreListed p (run_of p t q limit).consulted (run_of p t q limit).reached
 
 -- ---- limits

@@ -9,10 +9,11 @@
 ghost use Rattle.std.specs.Prelude.{◌≡◌};
 ghost use Rattle.machine_rules.specs.Worked.{unasserted};
 ghost use Rattle.machine_rules.specs.Runs.{With};
-ghost use Rattle.machine_laws.specs.Consulted.{IsLibraryWhole};
+ghost use Rattle.machine_laws.specs.Consulted.{IsWhole};
+ghost use Rattle.machine_laws.specs.Plain.{TestPlain};
 ghost use Rattle.machine_laws.specs.FrameLaw.{WentRight, HasEnded};
 ghost use Rattle.machine_laws.specs.Edit.{IsEdited};
-ghost use Rattle.machine_laws.specs.EditLaws.{StepsAlike, RunsAlike, RunsAlikeUnreached, RunsReachAlike, RunsReachTheSame, TestsAlikeUnreached, TestsReachAlike, TestsReachTheSame, ReachesLine, NotStuckAtEdit, GoesOnAlike};
+ghost use Rattle.machine_laws.specs.EditLaws.{SitesStay, AdaptersStay, StaysWhole, StepsAlike, RunsAlike, RunsAlikeUnreached, RunsReachAlike, RunsReachTheSame, TestsAlikeUnreached, TestsReachAlike, TestsReachTheSame, ReachesLine, NotStuckAtEdit, GoesOnAlike};
 ghost use Rattle.machine_laws.specs.EditWitness.{first_return_edit, original, mutant, zero_test, neg_test, original_run, edited_run};
 
 /// The lockstep: as long as no frame stands at the edited instruction and the program isn't stuck,
@@ -48,13 +49,31 @@ pub fn runs_reach_the_line_the_same()
     ensures tests { TestsReachTheSame }
 {}
 
+/// A mutant has the sites of its original, each with the name of its adapter: instructions move,
+/// and the k-th site of a method stays its k-th.
+pub fn sites_stay()
+    ensures { SitesStay }
+{}
+
+/// A program has the adapters of its sites after an edit, where it had them before.
+pub fn adapters_stay()
+    ensures { AdaptersStay }
+{}
+
+/// All that the frame law asks of a program is so after an edit whose instructions name no adapter.
+pub fn a_mutant_stays_whole()
+    ensures { StaysWhole }
+{}
+
 /// The premises of these laws are met. The edit stands before instructions that run, before a
 /// jump's target and before a row of lines, and all of them move; where the return applied, the
 /// edit does. One test ends on the program without reaching the edited line, and runs behind the
 /// edit as it did. The other ends, reaches the line on both programs, and fails on the edited one.
 pub fn edit_laws_are_of_use()
     ensures edited { IsEdited first_return_edit original mutant }
-    ensures whole { IsLibraryWhole original }
+    ensures whole { IsWhole original }
+    ensures whole_too { IsWhole mutant }
+    ensures tests { TestPlain zero_test × TestPlain neg_test }
     ensures goes_on { GoesOnAlike first_return_edit original mutant }
     ensures zero_ended { HasEnded (original_run zero_test).ending }
     ensures zero_misses { ReachesLine first_return_edit original (original_run zero_test) → ⊥ }

@@ -119,6 +119,6 @@ a_others (suc j) ne = refl
 pub a_differs : DiffersAt 0 class_a edited_a
 a_differs = record {
   library = refl;
-  alike = record { parent = refl; interfaces = refl; fields = refl; heads = refl };
+  alike = record { parent = refl; interfaces = refl; fields = refl; heads = refl; bootstraps = refl };
   others = a_others;
 }

@@ -1,18 +1,19 @@
--- What the rules say of a method goes by the superclass, interfaces and fields of its class, and by
--- the names and descriptors of its methods.
+-- What the rules say of a method goes by the superclass, interfaces, fields and bootstrap methods of
+-- its class, and by the names and descriptors of its methods.
 use Rattle.std.proofs.Common.{◌≡◌, ◌∙◌, refl, ap, ℕ, zero, suc, ◌&&◌, Bool, true, false, List, [], ◌∷◌, Option, Some, None, Result, Ok, Err, map, slice_get}
 use Rattle.std.specs.Prelude.{◌||◌, if◌then◌else◌, nat_eq, nat_le, is_some, length}
 use Rattle.program_rules.specs.Names.{Name, same, instance_initializer}
 use Rattle.program_rules.specs.Kinds.{Kind, reversed_onto}
-use Rattle.program_rules.specs.Instructions.{Instruction, TableSwitch, LookupSwitch, PutField, InvokeVirtual, InvokeInterface, InvokeSpecial, InvokeStatic, MethodRef, FieldRef}
+use Rattle.program_rules.specs.Instructions.{Instruction, TableSwitch, LookupSwitch, PutField, InvokeVirtual, InvokeInterface, InvokeSpecial, InvokeStatic, InvokeDynamic, MethodRef, FieldRef, DynamicRef}
 use Rattle.program_rules.specs.Types.{VType, UninitThis, Uninit, Obj, IntType}
 use Rattle.program_rules.specs.Linked.{Linked, LinkedMethod, LinkedCode, LinkedRow, is_abstract, method_from, method_place, code_in, covers}
 use Rattle.program_rules.specs.Resolution.{same_bool}
+use Rattle.program_rules.specs.Sites.{dynamics_before, site_of, site_name}
 use Rattle.type_rules.specs.Assignability.{FrameTypes, height, assignable, same_type}
 use Rattle.type_rules.specs.References.{Classes}
 use Rattle.type_rules.specs.Frames.{FullFrame, first_items, expand, new_at, stated_at, type_of}
 use Rattle.type_rules.specs.Rows.{Setting, Checked, Fails, Stops, row, calls_special, takes, takes_such, takes_reversed, takes_args, leads, leads_all, is_owner, initialises, initialises_new, with_result, has_room, plainly_named, falls, may_name, is_any_reference}
-use Rattle.type_rules.specs.Rules.{frame_given, check_instruction, falls_from, stated_or, frame_before, falls_into, falls_out, is_refused, catches, handlers_fit, with_handlers, rule_with, rule_at, is_native, is_first, fault_or, fault_from, setting_of, fault_within, body_fault, method_fault}
+use Rattle.type_rules.specs.Rules.{frame_given, check_instruction, falls_from, stated_or, frame_before, falls_into, falls_out, is_refused, catches, handlers_fit, with_handlers, rule_with, rule_at, is_native, is_first, fault_or, fault_from, is_right_site, place_or_first, right_sites, setting_of, fault_within, body_fault, method_fault}
 use Rattle.method_laws.specs.Methods.{head, heads, IsOwnAlike, MethodsKeepFaults}
 
 -- ---- one instruction
@@ -22,10 +23,11 @@ such_same : (f g : VType → Bool) (go on : VType → List VType → Checked) �
 such_same f g go on test same [] = refl
 such_same f g go on test same (t ∷ ts) = ap (λ b. if b then go t ts else Fails 7) (test t) ∙ ap (λ x. if g t then x else Fails 7) (same t ts)
 
-module _ (s : Setting) (lib : Bool) (flags : ℕ) (ms : List LinkedMethod) where
-  -- the same place, in a class that has another origin, other flags and other methods
+module _ (s : Setting) (lib : Bool) (flags : ℕ) (ms : List LinkedMethod) (right : ℕ → DynamicRef → Bool) (alike : (j : ℕ) (r : DynamicRef) → right j r ≡ s.right j r) where
+  -- the same place, in a class that has another origin, other flags and other methods, and the same
+  -- right sites
   abbrev t : Setting
-  t = record s { linked = record s.linked { library = lib; flags = flags; methods = ms } }
+  t = record s { linked = record s.linked { library = lib; flags = flags; methods = ms }; right = right }
 
   reversed_same : (go on : List VType → Checked) → ((ts : List VType) → go ts ≡ on ts) → (ks : List Kind) (stack : List VType) → takes_reversed t ks stack go ≡ takes_reversed s ks stack on
   reversed_same go on same [] stack = same stack
@@ -80,6 +82,13 @@ module _ (s : Setting) (lib : Bool) (flags : ℕ) (ms : List LinkedMethod) where
   static_same : (f : FrameTypes) (r : MethodRef) → takes_args t r.args f.stack (static_on t f r) ≡ takes_args s r.args f.stack (static_on s f r)
   static_same f r = args_same (static_on t f r) (static_on s f r) (λ below. refl) r.args f.stack
 
+  abbrev dynamic_on : Setting → ℕ → FrameTypes → DynamicRef → List VType → Checked
+  dynamic_on u at f r rest = has_room u (with_result r.result rest) (if u.right (dynamics_before at u.code.instructions) r then falls f (with_result r.result rest) else Fails 14)
+
+  dynamic_same : (at : ℕ) (f : FrameTypes) (r : DynamicRef) → takes_args t r.args f.stack (dynamic_on t at f r) ≡ takes_args s r.args f.stack (dynamic_on s at f r)
+  dynamic_same at f r =
+      args_same (dynamic_on t at f r) (dynamic_on s at f r) (λ rest. ap (λ b. has_room s (with_result r.result rest) (if b then falls f (with_result r.result rest) else Fails 14)) (alike (dynamics_before at s.code.instructions) r)) r.args f.stack
+
   special_same : (f : FrameTypes) (r : MethodRef) → calls_special t f r ≡ calls_special s f r
   special_same f r =
       ap (λ x. if same r.name instance_initializer then x else takes_args t r.args f.stack (special_on t f r)) (special_init f r)
@@ -100,6 +109,7 @@ module _ (s : Setting) (lib : Bool) (flags : ℕ) (ms : List LinkedMethod) where
   row_same at (InvokeInterface r) f = method_same f r
   row_same at (InvokeSpecial r) f = special_same f r
   row_same at (InvokeStatic r) f = static_same f r
+  row_same at (InvokeDynamic r) f = dynamic_same at f r
   row_same at other f = refl
 
   -- ---- one method
@@ -160,23 +170,26 @@ from_heads name desc k (x ∷ xs) (y ∷ ys) e =
     ap (λ (h : Name × Name). if same h.0 name && same h.1 desc then Some k else method_from name desc (suc k) xs) one
     ∙ ap (λ o. if same y.name name && same y.desc desc then Some k else o) (from_heads name desc (suc k) xs ys tail)
 
-module _ (p : Classes) (n : Name) (c : Linked) (lib : Bool) (flags : ℕ) (ms : List LinkedMethod) where
+module _ (p : Classes) (n : Name) (c : Linked) (lib : Bool) (flags : ℕ) (ms : List LinkedMethod) (e : heads ms ≡ heads c.methods) where
   abbrev d : Linked
   d = record c { library = lib; flags = flags; methods = ms }
+
+  right_same : (m : LinkedMethod) (j : ℕ) (r : DynamicRef) → right_sites p n d m j r ≡ right_sites p n c m j r
+  right_same m j r = ap (λ o. is_right_site p (site_name n (place_or_first o) j) (site_of n c.bootstraps r)) (from_heads m.name m.desc 0 ms c.methods e)
 
   within_same : (m : LinkedMethod) (code : LinkedCode) (r : Result (List FullFrame) ℕ) → fault_within p n d m code r ≡ fault_within p n c m code r
   within_same m code (Err at) = refl
   within_same m code (Ok fs) =
-      ap (λ x. if nat_eq (length code.instructions) 0 then Some (record { at = 0; rule = 4 }) else x) (faults_same (setting_of p n c m code fs) lib flags ms 0 code.instructions)
+      ap (λ x. if nat_eq (length code.instructions) 0 then Some (record { at = 0; rule = 4 }) else x) (faults_same (setting_of p n c m code fs) lib flags ms (right_sites p n d m) (right_same m) 0 code.instructions)
 
   body_same : (m : LinkedMethod) (o : Option LinkedCode) → body_fault p n d m o ≡ body_fault p n c m o
   body_same m None = refl
   body_same m (Some code) =
       ap (λ x. if nat_le (height (first_items n m)) code.max_locals then x else Some (record { at = 0; rule = 2 })) (within_same m code (expand n m code))
 
-  method_same_by : heads ms ≡ heads c.methods → (k : ℕ) (m : LinkedMethod) → method_fault p n d k m ≡ method_fault p n c k m
+  method_same_by : (k : ℕ) (m : LinkedMethod) → method_fault p n d k m ≡ method_fault p n c k m
   unfolding method_fault
-  method_same_by e k m =
+  method_same_by k m =
       let plain : Bool = if is_native m.flags || same_bool (is_abstract m.flags) (is_some (code_in m.body)) then false else true in
       ap (λ o. if plain && is_first o k then body_fault p n d m (code_in m.body) else Some (record { at = 0; rule = 1 })) (from_heads m.name m.desc 0 ms c.methods e)
       ∙ ap (λ x. if plain && is_first (method_place m.name m.desc c.methods) k then x else Some (record { at = 0; rule = 1 })) (body_same m (code_in m.body))
@@ -187,6 +200,7 @@ made_of c c' is =
     ap (λ x. record c' { parent = x }) is.parent
     ∙ ap (λ x. record c' { parent = c.parent; interfaces = x }) is.interfaces
     ∙ ap (λ x. record c' { parent = c.parent; interfaces = c.interfaces; fields = x }) is.fields
+    ∙ ap (λ x. record c' { parent = c.parent; interfaces = c.interfaces; fields = c.fields; bootstraps = x }) is.bootstraps
 
 pub keep_faults : MethodsKeepFaults
 keep_faults p n c c' k m is =

@@ -17,12 +17,13 @@ abbrev pub heads : List LinkedMethod → List (Name × Name)
 heads ms = map head ms
 
 -- What the rules ask of a method's own class is the same in both: superclass, interfaces, fields,
--- and name and descriptor of each method.
+-- name and descriptor of each method, and bootstrap methods.
 pub record IsOwnAlike (c c' : Linked) : Type 0 where
   pub parent : c'.parent ≡ c.parent
   pub interfaces : c'.interfaces ≡ c.interfaces
   pub fields : c'.fields ≡ c.fields
   pub heads : heads c'.methods ≡ heads c.methods
+  pub bootstraps : c'.bootstraps ≡ c.bootstraps
 
 -- The second class is the first with other code of the method at this place.
 pub record DiffersAt (k : ℕ) (c c' : Linked) : Type 0 where

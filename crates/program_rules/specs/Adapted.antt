@@ -4,7 +4,8 @@ use Rattle.program_rules.specs.Names.{Name}
 use Rattle.program_rules.specs.Instructions.{DynamicRef, InvokeDynamic}
 use Rattle.program_rules.specs.Linked.{Linked, LinkedMethod, LinkedCode, HasCode}
 use Rattle.program_rules.specs.Programs.{Look}
-use Rattle.program_rules.specs.Sites.{Site, site_of, site_name, dynamics_before, is_interface_at, adapter}
+use Rattle.program_rules.specs.Sites.{Site, site_of, site_name, dynamics_before, adapter}
+use Rattle.program_rules.specs.Adapters.{is_interface_at}
 
 -- A class of the program has this site, and this is the name of its adapter.
 pub record IsSite (p : Look) (own : Name) (s : Site) : Type 0 where

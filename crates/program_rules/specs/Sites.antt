@@ -5,10 +5,7 @@ use Rattle.std.specs.Fmt.{decimal}
 use Rattle.program_rules.specs.Names.{Name, same, object_name, is_array_name, instance_initializer}
 use Rattle.program_rules.specs.Kinds.{Kind, OfBoolean, OfByte, OfChar, OfShort, OfInt, OfLong, OfReference, descriptor_in}
 use Rattle.program_rules.specs.Instructions.{Instruction, FieldRef, DynamicRef, ReferenceLoad, IntLoad, LongLoad, Pop, Pop2, Dup, New, GetField, CheckCast, InvokeVirtual, InvokeInterface, InvokeSpecial, InvokeStatic, InvokeDynamic, IntReturn, LongReturn, ReferenceReturn, PlainReturn}
-use Rattle.program_rules.specs.Linked.{Linked, LinkedField, LinkedMethod, LinkedCode, HasCode, Bootstrap, code_in}
-use Rattle.program_rules.specs.Outlines.{outline_of, is_interface_class}
-use Rattle.program_rules.specs.Programs.{Look}
-use Rattle.program_rules.specs.Library.{class_among, first_of, with_library}
+use Rattle.program_rules.specs.Linked.{Linked, LinkedField, LinkedMethod, HasCode, Bootstrap}
 
 -- ---- names of adapters
 
@@ -148,7 +145,8 @@ loads_kind (OfReference c) n = ReferenceLoad n
 loads_kind k n = IntLoad n
 
 -- One argument behind the other.
-abbrev pub joined : Option (List Instruction) → Option (List Instruction) → Option (List Instruction)
+abbrev pub joined :
+    Option (List Instruction) → Option (List Instruction) → Option (List Instruction)
 joined (Some xs) (Some ys) = Some (xs ++ ys)
 joined (Some xs) None = None
 joined None ys = None
@@ -159,7 +157,8 @@ abbrev pub arguments_code : ℕ → List Kind → List Kind → List Kind → Op
 arguments_code n [] [] [] = Some []
 arguments_code n (s ∷ ss) (t ∷ ts) (k ∷ ks) =
     joined (Some (loads_kind s n ∷ []))
-    (joined (converts_kind s t) (joined (converts_kind t k) (arguments_code (n + words_of_kind s) ss ts ks)))
+    (joined (converts_kind s t)
+    (joined (converts_kind t k) (arguments_code (n + words_of_kind s) ss ts ks)))
 arguments_code n ss ts ks = None
 
 -- The name of the field of a captured value.
@@ -358,47 +357,3 @@ site_by class r o = None
 -- The site that an instruction of a class is, if it is of the form that is run.
 abbrev pub site_of : Name → List (Option Bootstrap) → DynamicRef → Option Site
 site_of class bs r = site_by class r (slice_get bs r.bootstrap)
-
--- ---- programs with adapters
-
--- Whether a name is that of an interface.
-abbrev pub is_interface_at : Look → Name → Bool
-is_interface_at p n = is_interface_class (outline_of (p n))
-
--- The adapter of a site that is one.
-abbrev pub adapter_if : Look → Name → Option Site → List (Name × Linked)
-adapter_if p own None = []
-adapter_if p own (Some s) = (own, adapter own (is_interface_at p s.interface) s) ∷ []
-
--- The adapters of a code, the next site being the j-th.
-abbrev pub adapters_in_code :
-    Look → Name → List (Option Bootstrap) → ℕ → ℕ → List Instruction → List (Name × Linked)
-adapters_in_code p class bs k j [] = []
-adapters_in_code p class bs k j (InvokeDynamic r ∷ is) =
-    adapter_if p (site_name class k j) (site_of class bs r)
-    ++ adapters_in_code p class bs k (suc j) is
-adapters_in_code p class bs k j (i ∷ is) = adapters_in_code p class bs k j is
-
--- Those of a method, if it has code.
-abbrev pub adapters_in_body :
-    Look → Name → List (Option Bootstrap) → ℕ → Option LinkedCode → List (Name × Linked)
-adapters_in_body p class bs k None = []
-adapters_in_body p class bs k (Some code) = adapters_in_code p class bs k 0 code.instructions
-
--- Those of the methods of a class from the k-th on.
-abbrev pub adapters_in_methods :
-    Look → Name → List (Option Bootstrap) → ℕ → List LinkedMethod → List (Name × Linked)
-adapters_in_methods p class bs k [] = []
-adapters_in_methods p class bs k (m ∷ ms) =
-    adapters_in_body p class bs k (code_in m.body) ++ adapters_in_methods p class bs (suc k) ms
-
--- The adapters of all sites of these classes, where a name means what it means in this program.
-abbrev pub adapters_of : Look → List (Name × Linked) → List (Name × Linked)
-adapters_of p [] = []
-adapters_of p (c ∷ cs) = adapters_in_methods p c.0 c.1.bootstraps 0 c.1.methods ++ adapters_of p cs
-
--- The program of these classes with their adapters: a name means one of the classes, else the
--- library's class, else an adapter.
-abbrev pub with_sites : List (Name × Linked) → Look
-with_sites classes n =
-    first_of (with_library classes n) (class_among (adapters_of (with_library classes) classes) n)

@@ -14,10 +14,13 @@ use Rattle.class_model.specs.declared.outcome.Outcome.{Outcome}
 use Rattle.record_rules.specs.Matching.{is_timed_out}
 use Rattle.record_rules.specs.Outcomes.{outcome_in, outcome_at, outcome_of}
 use Rattle.std.proofs.Common.{nat_le}
-use Rattle.machine_laws.specs.Consulted.{IsLibraryWhole}
+use Rattle.machine_laws.specs.Consulted.{IsWhole}
+use Rattle.machine_laws.specs.Plain.{TestPlain}
 use Rattle.machine_laws.specs.Walks.{LinesAreListed}
 use Rattle.machine_laws.proofs.Walks.{runs_lines, runs_keep}
-use Rattle.record_rules.specs.Profiles.{Held, Profile, class_by}
+use Rattle.machine_laws.proofs.Told.{told_library}
+use Rattle.program_rules.specs.Adapters.{adapters_by}
+use Rattle.record_rules.specs.Profiles.{Held, Profile, plain_by, class_by}
 use Rattle.record_rules.specs.Records.{Asked, run, place_in, is_before, put_pair, reached_in, with_bytes}
 use Rattle.reuse_laws.specs.Asking.{IsProfile}
 use Rattle.reuse_laws.specs.Closing.{AreDifferentNames}
@@ -110,13 +113,14 @@ there held (m ∷ ms) c bytes h l =
     there_case held m c ms bytes (same m c) refl h
     (⊎_elim (λ (e : same m c ≡ true). inr e) (λ (e : is_listed c ms ≡ true). inl (there held ms c bytes h e)) (or_either (same m c) (is_listed c ms) l))
 
-no_file : (o : Option Linked) → ((c : Linked) → o ≡ Some c → c.library ≡ true) → is_from_file o ≡ true → ⊥
-no_file None alone h = cc
-no_file (Some c) alone h = let e : (if c.library then false else true) ≡ false = ap (λ (b : Bool). if b then false else true) (alone c refl) in cc
+no_file : (o a : Option Linked) → ((c : Linked) → o ≡ Some c → c.library ≡ true) → ((c : Linked) → a ≡ Some c → c.library ≡ true) → is_from_file (first_of o a) ≡ true → ⊥
+no_file None None alone made h = cc
+no_file None (Some c) alone made h = let e : (if c.library then false else true) ≡ false = ap (λ (b : Bool). if b then false else true) (made c refl) in cc
+no_file (Some c) a alone made h = let e : (if c.library then false else true) ≡ false = ap (λ (b : Bool). if b then false else true) (alone c refl) in cc
 
-held_case : (m : Profile) → IsProfile m → (n : Name) (o : Option (List ℕ)) → is_from_file (first_of (option_and_then (m.class n) o) (m.library n)) ≡ true → (bytes : List ℕ) × (o ≡ Some bytes)
-held_case m ok n None h = absurd (no_file (m.library n) (ok.alone n) h)
-held_case m ok n (Some b) h = (b, refl)
+held_case : (m : Profile) → IsProfile m → (held : Held) (n : Name) (o : Option (List ℕ)) → is_from_file (first_of (first_of (option_and_then (m.class n) o) (m.library n)) (adapters_by (plain_by m held) n)) ≡ true → (bytes : List ℕ) × (o ≡ Some bytes)
+held_case m ok held n None h = absurd (no_file (m.library n) (adapters_by (plain_by m held) n) (ok.alone n) (told_library (plain_by m held) n) h)
+held_case m ok held n (Some b) h = (b, refl)
 
 own_reached : (x : Name × ℕ) (rs : List (Name × ℕ)) → is_reached x.0 x.1 (x ∷ rs) ≡ true
 own_reached x rs = or_first (same x.0 x.0 && nat_eq x.1 x.1) (is_reached x.0 x.1 rs) (and_true (same x.0 x.0) (nat_eq x.1 x.1) (nat_list_eq_equiv.refl x.0) (eq-eqb x.1 x.1 refl))
@@ -125,7 +129,7 @@ all_present : (m : Profile) → IsProfile m → (held : Held) (ns : List Name) (
 all_present m alone held ns [] h = tt
 all_present m alone held ns (x ∷ rs) h =
     let own = h x.0 x.1 (own_reached x rs) in
-    let file = held_case m alone x.0 (held x.0) own.1 in
+    let file = held_case m alone held x.0 (held x.0) own.1 in
     (there held ns x.0 file.0 file.1 own.0, all_present m alone held ns rs (λ c l g. h c l (or_second (same x.0 c && nat_eq x.1 l) (is_reached c l rs) g)))
 
 -- ---- steps
@@ -150,8 +154,9 @@ pub have_form : RecordsHaveForm
 have_form m x r ok asked e =
     let has = has_outcome m x r e in
     let ns = (run x).consulted in
-    let whole : IsLibraryWhole x.look = subst IsLibraryWhole (sym asked.program) (ok.whole x.held asked.apart) in
-    let listed : LinesAreListed (class_by m x.held) ns (run x).reached = subst (λ p. LinesAreListed p ns (run x).reached) asked.program (runs_lines x.look x.test x.limits x.limit whole) in
+    let whole : IsWhole x.look = subst IsWhole (sym asked.program) (ok.whole x.held asked.apart) in
+    let plain : TestPlain x.test = ok.plain x.held x.test.class x.test.method x.test asked.apart asked.found in
+    let listed : LinesAreListed (class_by m x.held) ns (run x).reached = subst (λ p. LinesAreListed p ns (run x).reached) asked.program (runs_lines x.look x.test x.limits x.limit whole plain) in
     subst HasForm has.made (record {
       steps = right_steps m x has.outcome has.told;
       names = all_new x.held [] ns (runs_differ x.look x.test x.limits x.limit) (λ n l. refl);

@@ -5,6 +5,7 @@ use Rattle.program_rules.specs.Linked.{Linked}
 use Rattle.program_rules.specs.Programs.{Look}
 use Rattle.program_rules.specs.Tests.{Test}
 use Rattle.program_rules.specs.Library.{first_of}
+use Rattle.program_rules.specs.Adapters.{with_adapters}
 
 -- The bytes of the class file of each name.
 abbrev pub Held : Type 0
@@ -21,10 +22,14 @@ pub record Profile : Type 0 where
   -- whether class files are a program with the library: they have no fault of names and supers
   pub builds : List (Name × List ℕ) → Bool
 
--- The class of a name, among class files and the library.
-abbrev pub class_by : Profile → Held → Look
-class_by m held n = first_of (option_and_then (m.class n) (held n)) (m.library n)
+-- The class of a name among class files and the library, adapters apart.
+abbrev pub plain_by : Profile → Held → Look
+plain_by m held n = first_of (option_and_then (m.class n) (held n)) (m.library n)
 
--- These class files and the library are the program.
+-- The class of a name, among class files, the library and the adapters of their sites.
+abbrev pub class_by : Profile → Held → Look
+class_by m held = with_adapters (plain_by m held)
+
+-- These class files, the library and the adapters are the program.
 abbrev pub IsProgramOf : Profile → Held → Look → Type 0
 IsProgramOf m held p = p ≡ class_by m held

@@ -7,12 +7,17 @@ use Rattle.std.proofs.lemmas.List.Elements.{All-nil, All-cons, All-head, All-tai
 use Rattle.program_rules.specs.Names.{Name, same, is_listed}
 use Rattle.program_rules.specs.Linked.{Linked, parents_of, is_library}
 use Rattle.program_rules.specs.Programs.{Look, concat_over, supers_within, supers}
-use Rattle.program_rules.specs.Tests.{plain_test}
+use Rattle.program_rules.specs.Tests.{Test, plain_test}
 use Rattle.program_rules.specs.Library.{library_classes, class_among, first_of, with_library}
-use Rattle.machine_laws.specs.Consulted.{IsLibraryWhole}
-use Rattle.machine_laws.specs.Whole.{IsOfFile, HasOwnName}
+use Rattle.program_rules.specs.Sites.{is_site_name}
+use Rattle.program_rules.specs.Adapters.{with_adapters}
+use Rattle.machine_laws.specs.Consulted.{IsWhole}
+use Rattle.machine_laws.specs.Plain.{IsPlain, TestPlain}
+use Rattle.machine_laws.specs.Whole.{IsOfFile, HasOwnName, is_plain, is_plain_class, are_plain_classes}
 use Rattle.machine_laws.proofs.Whole.{library_whole}
-use Rattle.record_rules.specs.Profiles.{Held, class_by}
+use Rattle.machine_laws.proofs.Tested.{plain_is, tested_plain}
+use Rattle.machine_laws.proofs.Told.{siteless_tell}
+use Rattle.record_rules.specs.Profiles.{Held, plain_by, class_by}
 use Rattle.record_rules.specs.Matching.{same_bytes}
 use Rattle.reuse_laws.specs.Asking.{IsApart, AreApart, TestsGoBySupers, IsProfile}
 use Rattle.reuse_laws.proofs.Tests.{and_both, or_second, first_listed, names_are, bytes_are}
@@ -60,8 +65,9 @@ none_is (Some c) h = absurd cc
 each_apart : (fs : List (Name × List ℕ)) → are_apart fs ≡ true → All (λ f. IsApart profile f.0) fs
 each_apart [] h = All-nil (λ (f : Name × List ℕ). IsApart profile f.0)
 each_apart (f ∷ fs) h =
-    let parts = and_both (is_none (class_among library_classes f.0)) (are_apart fs) h in
-    All-cons (λ (f : Name × List ℕ). IsApart profile f.0) f fs (none_is (class_among library_classes f.0) parts.0) (each_apart fs parts.1)
+    let parts = and_both (is_none (class_among library_classes f.0) && is_plain f.0) (are_apart fs) h in
+    let one = and_both (is_none (class_among library_classes f.0)) (is_plain f.0) parts.0 in
+    All-cons (λ (f : Name × List ℕ). IsApart profile f.0) f fs (none_is (class_among library_classes f.0) one.0, plain_is f.0 one.1) (each_apart fs parts.1)
 
 -- ---- beside them the library is whole
 
@@ -142,13 +148,53 @@ same_case : (held : Held) (n : Name) (o : Option (List ℕ)) → held n ≡ o �
 same_case held n None e = none_spelled files n held e
 same_case held n (Some bytes) e = some_spelled files n bytes held e
 
-same_look : (held : Held) → with_library (picked held files) ≡ class_by profile held
+same_look : (held : Held) → with_library (picked held files) ≡ plain_by profile held
 same_look held = λ i n. first_of (same_case held n (held n) refl i) (class_among library_classes n)
 
-whole : (held : Held) → AreApart profile held → IsLibraryWhole (class_by profile held)
-whole held apart =
-    subst IsLibraryWhole (same_look held)
-    (library_whole (picked held files) (picked_of_file held files each_of_file) (picked_named held files each_named))
+-- no class of the files has a site, or names an adapter
+abbrev IsPlainFile : File → Type 0
+IsPlainFile f = is_plain_class f.class ≡ true
+
+each_plain : All IsPlainFile files
+each_plain = All-from_recursion IsPlainFile files (refl, (refl, (refl, (refl, (refl, (refl, (refl, (refl, (refl, tt)))))))))
+
+if_plain : (b : Bool) (n : Name) (c : Linked) (cs : List (Name × Linked)) → is_plain_class c ≡ true → are_plain_classes cs ≡ true → are_plain_classes (picked_if b n c cs) ≡ true
+if_plain true n c cs h all = ap (λ b. b && are_plain_classes cs) h ∙ all
+if_plain false n c cs h all = all
+
+picked_plain : (held : Held) (fs : List File) → All IsPlainFile fs → are_plain_classes (picked held fs) ≡ true
+picked_plain held [] all = refl
+picked_plain held (f ∷ fs) all = if_plain (is_held held f) f.name f.class (picked held fs) (All-head IsPlainFile f fs all) (picked_plain held fs (All-tail IsPlainFile f fs all))
+
+first_alone : (o : Option Linked) → first_of o None ≡ o
+first_alone None = refl
+first_alone (Some c) = refl
+
+-- so they have no adapters
+module _ (held : Held) where
+  abbrev p : Look
+  p = with_library (picked held files)
+
+  tested : are_plain_classes (picked held files) ≡ true
+  tested = picked_plain held files each_plain
+
+  without : (n : Name) → with_adapters p n ≡ p n
+  without n = ap (first_of (p n)) (siteless_tell (picked held files) tested n) ∙ first_alone (p n)
+
+  same_program : p ≡ class_by profile held
+  same_program = sym (λ i n. without n i) ∙ ap with_adapters (same_look held)
+
+  is_whole : IsWhole p
+  is_whole =
+      let plain = tested_plain (picked held files) tested in
+      record {
+        library = library_whole (picked held files) (picked_of_file held files each_of_file) (picked_named held files each_named);
+        names = plain.0;
+        adapters = plain.1;
+      }
+
+whole : (held : Held) → AreApart profile held → IsWhole (class_by profile held)
+whole held apart = subst IsWhole (same_program held) (is_whole held)
 
 -- ---- tests go by their class
 
@@ -158,8 +204,20 @@ own_within (suc k) p n = first_listed n (concat_over (supers_within k p) (parent
 
 tests_by : TestsGoBySupers profile
 unfolding supers
-tests_by held held' class method apart same_held =
-    ap (λ (o : Option (List ℕ)). option_map (λ (bytes : List ℕ). plain_test class method) o) (same_held class (or_second (is_library (class_by profile held class)) (is_listed class (supers_within 4294967296 (class_by profile held) class)) (own_within 4294967296 (class_by profile held) class)))
+tests_by held held' class method apart plain same_held =
+    ap (λ (o : Option (List ℕ)). option_map (λ (bytes : List ℕ). plain_test class method) o) (same_held class plain (or_second (is_library (class_by profile held class)) (is_listed class (supers_within 4294967296 (class_by profile held) class)) (own_within 4294967296 (class_by profile held) class)))
+
+-- ---- tests name no adapter
+
+test_plain : (held : Held) (class method : Name) (o : Option (List ℕ)) (t : Test) → AreApart profile held → held class ≡ o → option_map (λ (bytes : List ℕ). plain_test class method) o ≡ Some t → TestPlain t
+test_plain held class method None t apart e f = absurd cc
+test_plain held class method (Some bytes) t apart e f =
+    let own : IsPlain class = (apart class bytes e).1 in
+    let is : plain_test class method ≡ t = cc in
+    subst TestPlain is (own, (tt, (own, (own, tt))))
+
+tests_plain : (held : Held) (class method : Name) (t : Test) → AreApart profile held → profile.test held class method ≡ Some t → TestPlain t
+tests_plain held class method t apart f = test_plain held class method (held class) t apart refl f
 
 pub is_profile : IsProfile profile
 is_profile = record {
@@ -168,4 +226,5 @@ is_profile = record {
   apart = each_apart;
   whole = whole;
   tests = tests_by;
+  plain = tests_plain;
 }

@@ -90,10 +90,10 @@ abbrev Apart : Name × List ℕ → Type 0
 Apart f = IsApart profile f.0
 
 original_apart : AreApart profile (held_in original)
-original_apart n bytes e = held_at Apart original (All-from_recursion Apart (files_in original) (refl, (refl, tt))) n bytes e
+original_apart n bytes e = held_at Apart original (All-from_recursion Apart (files_in original) ((refl, refl), ((refl, refl), tt))) n bytes e
 
 further_apart : AreApart profile (held_in further)
-further_apart n bytes e = held_at Apart further (All-from_recursion Apart (files_in further) (refl, (refl, (refl, tt)))) n bytes e
+further_apart n bytes e = held_at Apart further (All-from_recursion Apart (files_in further) ((refl, refl), ((refl, refl), ((refl, refl), tt)))) n bytes e
 
 pub original_asked : IsAsked profile (neg_on original 1000000000)
 original_asked = record { program = refl; apart = original_apart; found = refl }

@@ -18,6 +18,7 @@ use Rattle.machine_rules.specs.Outcomes as machine
 use Rattle.machine_rules.specs.Runs.{Ending, With, Ran}
 use Rattle.machine_rules.specs.Worked.{roomy}
 use Rattle.machine_rules.specs.WorkedRows.{tight, test_class, class_k, class_m, m_test}
+use Rattle.machine_laws.specs.Whole.{is_plain}
 use Rattle.record_rules.specs.declared.record.RunRecord.{RunRecord}
 use Rattle.record_rules.specs.Profiles.{Held, Profile, class_by}
 use Rattle.record_rules.specs.Records.{Asked}
@@ -63,9 +64,9 @@ spelled_by (f ∷ fs) n bytes =
 abbrev pub test_by : Held → Name → Name → Option Test
 test_by held class method = option_map (λ bytes. plain_test class method) (held class)
 
--- No class file has the name of a library class.
+-- No class file has the name of a library class, or that of an adapter.
 abbrev pub are_apart : List (Name × List ℕ) → Bool
-are_apart fs = list_all (λ f. is_none (class_among library_classes f.0)) fs
+are_apart fs = list_all (λ f. is_none (class_among library_classes f.0) && is_plain f.0) fs
 
 abbrev pub profile : Profile
 profile = record {

@@ -6,8 +6,10 @@ use Rattle.program_rules.specs.Names.{Name, same, is_listed}
 use Rattle.program_rules.specs.Linked.{Linked, is_library}
 use Rattle.program_rules.specs.Programs.{Look}
 use Rattle.program_rules.specs.Library.{first_of}
-use Rattle.machine_laws.specs.Consulted.{Seen, AllSeen}
-use Rattle.record_rules.specs.Profiles.{Held, Profile, class_by}
+use Rattle.machine_laws.specs.Consulted.{IsKnown, AllKnown, AllSeen}
+use Rattle.machine_laws.specs.Plain.{IsPlain, ArePlain}
+use Rattle.machine_laws.proofs.Told.{tell_none}
+use Rattle.record_rules.specs.Profiles.{Held, Profile, plain_by, class_by}
 use Rattle.record_rules.specs.Records.{with_bytes}
 use Rattle.record_rules.specs.Matching.{same_bytes, holds_as, holds_all}
 use Rattle.record_rules.specs.Truth.{held_in, files_with, files_in, IsSpelled}
@@ -25,30 +27,48 @@ name_case : (m : Profile) → IsProfile m → (n : Name) (o : Option (List ℕ))
 name_case m ok n None apart h = (refl, h)
 name_case m ok n (Some b) apart h = absurd (class_case (m.class n b) (m.library n) (λ k e. ok.files n b k e) (apart b refl) h)
 
--- the class is the same where the class file is
-pub class_same : (m : Profile) (held held' : Held) (n : Name) → held' n ≡ held n → class_by m held' n ≡ class_by m held n
-class_same m held held' n e = ap (λ (o : Option (List ℕ)). first_of (option_and_then (m.class n) o) (m.library n)) e
+first_alone : (o : Option Linked) → first_of o None ≡ o
+first_alone None = refl
+first_alone (Some c) = refl
 
-pub library_name : (m : Profile) → IsProfile m → (held : Held) → AreApart m held → (n : Name) → is_library (class_by m held n) ≡ true → (held n ≡ None) × (is_library (m.library n) ≡ true)
-library_name m ok held apart n h = name_case m ok n (held n) (apart n) h
+-- under a name that is none of an adapter, adapters have no part
+plain_class : (m : Profile) (held : Held) (n : Name) → IsPlain n → class_by m held n ≡ plain_by m held n
+plain_class m held n plain = ap (λ (o : Option Linked). first_of (plain_by m held n) o) (tell_none (plain_by m held) n plain) ∙ first_alone (plain_by m held n)
+
+-- so there the class is the same where the class file is
+pub class_same : (m : Profile) (held held' : Held) (n : Name) → IsPlain n → held' n ≡ held n → class_by m held' n ≡ class_by m held n
+class_same m held held' n plain e =
+    plain_class m held' n plain ∙ ap (λ (o : Option (List ℕ)). first_of (option_and_then (m.class n) o) (m.library n)) e ∙ sym (plain_class m held n plain)
+
+pub library_name : (m : Profile) → IsProfile m → (held : Held) → AreApart m held → (n : Name) → IsPlain n → is_library (class_by m held n) ≡ true → (held n ≡ None) × (is_library (m.library n) ≡ true)
+library_name m ok held apart n plain h = name_case m ok n (held n) (λ b e. (apart n b e).0) (ap is_library (sym (plain_class m held n plain)) ∙ h)
 
 none_case : (m : Profile) (n : Name) (o : Option (List ℕ)) → ((bytes : List ℕ) → o ≡ Some bytes → m.library n ≡ None) → is_library (m.library n) ≡ true → o ≡ None
 none_case m n None apart h = refl
 none_case m n (Some b) apart h = let e : is_library None ≡ true = subst (λ (o : Option Linked). is_library o ≡ true) (apart b refl) h in absurd cc
 
 pub none_held : (m : Profile) (held : Held) → AreApart m held → (n : Name) → is_library (m.library n) ≡ true → held n ≡ None
-none_held m held apart n h = none_case m n (held n) (apart n) h
+none_held m held apart n h = none_case m n (held n) (λ b e. (apart n b e).0) h
 
 -- ---- what was seen
 
-all_listed : (p : Look) (ns ms : List Name) (k : Name) → AllSeen p ns ms → is_listed k ms ≡ true → Seen p ns k
+all_listed : (p : Look) (ns ms : List Name) (k : Name) → AllKnown p ns ms → is_listed k ms ≡ true → IsKnown p ns k
 all_listed p ns [] k all h = absurd cc
 all_listed p ns (m ∷ ms) k all h =
-    ⊎_elim (λ (e : same m k ≡ true). subst (Seen p ns) (names_are m k e) all.0) (λ (e : is_listed k ms ≡ true). all_listed p ns ms k all.1 e) (or_either (same m k) (is_listed k ms) h)
+    ⊎_elim (λ (e : same m k ≡ true). subst (IsKnown p ns) (names_are m k e) all.0) (λ (e : is_listed k ms ≡ true). all_listed p ns ms k all.1 e) (or_either (same m k) (is_listed k ms) h)
 
-pub all_at : (p : Look) (ns ms : List Name) (k : Name) → AllSeen p ns ms → Seen p ms k → Seen p ns k
+pub all_at : (p : Look) (ns ms : List Name) (k : Name) → AllKnown p ns ms → IsKnown p ms k → IsKnown p ns k
 all_at p ns ms k all h =
     ⊎_elim (λ (e : is_library (p k) ≡ true). or_first (is_library (p k)) (is_listed k ns) e) (λ (e : is_listed k ms ≡ true). all_listed p ns ms k all e) (or_either (is_library (p k)) (is_listed k ms) h)
+
+pub known_all : (p : Look) (ns ms : List Name) → AllSeen p ns ms → AllKnown p ns ms
+known_all p ns [] h = tt
+known_all p ns (m ∷ ms) h = (h.0.0, known_all p ns ms h.1)
+
+pub plain_listed : (ks : List Name) (k : Name) → ArePlain ks → is_listed k ks ≡ true → IsPlain k
+plain_listed [] k all h = absurd cc
+plain_listed (m ∷ ks) k all h =
+    ⊎_elim (λ (e : same m k ≡ true). subst IsPlain (names_are m k e) all.0) (λ (e : is_listed k ks ≡ true). plain_listed ks k all.1 e) (or_either (same m k) (is_listed k ks) h)
 
 -- ---- where class files hold what a list says
 

@@ -8,8 +8,10 @@ use Rattle.program_rules.specs.Names.{Name, same, is_listed}
 use Rattle.program_rules.specs.Linked.{Linked, is_library}
 use Rattle.program_rules.specs.Programs.{Look}
 use Rattle.program_rules.specs.Library.{first_of}
+use Rattle.program_rules.specs.Adapters.{adapters_by}
+use Rattle.machine_laws.proofs.Told.{told_library}
 use Rattle.record_rules.specs.declared.record.RunRecord.{RunRecord}
-use Rattle.record_rules.specs.Profiles.{Held, Profile, class_by}
+use Rattle.record_rules.specs.Profiles.{Held, Profile, plain_by, class_by}
 use Rattle.record_rules.specs.Records.{Asked, run, with_bytes, record_with, record_of}
 use Rattle.record_rules.specs.Matching.{same_bytes, is_of_test, fits_limit, holds_as, holds_all, matches, first_match}
 use Rattle.record_rules.specs.Truth.{IsTrueRecord}
@@ -39,13 +41,14 @@ bytes_own (Some b) = nat_list_eq_equiv.refl b
 no_class : (m : Profile) → IsProfile m → (held : Held) (n : Name) → is_library (class_by m held n) ≡ false → (is_some (held n) || is_none (class_by m held n)) ≡ true
 no_class m ok held n h = held_case (held n) h
   where
-    library_case : (o : Option Linked) → ((c : Linked) → o ≡ Some c → c.library ≡ true) → is_library o ≡ false → is_none o ≡ true
-    library_case None own h = refl
-    library_case (Some c) own h = let e : c.library ≡ true = own c refl in absurd cc
+    library_case : (o a : Option Linked) → ((c : Linked) → o ≡ Some c → c.library ≡ true) → ((c : Linked) → a ≡ Some c → c.library ≡ true) → is_library (first_of o a) ≡ false → is_none (first_of o a) ≡ true
+    library_case None None own made h = refl
+    library_case None (Some c) own made h = let e : c.library ≡ true = made c refl in absurd cc
+    library_case (Some c) a own made h = let e : c.library ≡ true = own c refl in absurd cc
 
-    held_case : (o : Option (List ℕ)) → is_library (first_of (option_and_then (m.class n) o) (m.library n)) ≡ false → (is_some o || is_none (first_of (option_and_then (m.class n) o) (m.library n))) ≡ true
+    held_case : (o : Option (List ℕ)) → is_library (first_of (first_of (option_and_then (m.class n) o) (m.library n)) (adapters_by (plain_by m held) n)) ≡ false → (is_some o || is_none (first_of (first_of (option_and_then (m.class n) o) (m.library n)) (adapters_by (plain_by m held) n))) ≡ true
     held_case (Some b) h = refl
-    held_case None h = library_case (m.library n) (ok.alone n) h
+    held_case None h = library_case (m.library n) (adapters_by (plain_by m held) n) (ok.alone n) (told_library (plain_by m held) n) h
 
 holds_own : (m : Profile) → IsProfile m → (held : Held) (ns : List Name) → ((n : Name) → is_listed n ns ≡ true → is_library (class_by m held n) ≡ false) → holds_all (class_by m held) held (with_bytes held ns) ≡ true
 holds_own m ok held [] h = refl

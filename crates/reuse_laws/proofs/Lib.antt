@@ -1,7 +1,6 @@
 pub mod Tests
 pub mod Held
 pub mod Matched
-pub mod Growing
 pub mod Reused
 pub mod Made
 pub mod Jobs

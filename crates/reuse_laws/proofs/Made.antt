@@ -6,9 +6,11 @@ use Rattle.program_rules.specs.Programs.{Look, supers}
 use Rattle.program_rules.specs.Tests.{Test}
 use Rattle.machine_rules.specs.declared.machine.Limits.{Limits}
 use Rattle.machine_rules.specs.State.{start}
-use Rattle.machine_laws.specs.Consulted.{Seen, Agree, IsLibraryWhole}
-use Rattle.machine_laws.proofs.Known.{seen_in}
-use Rattle.machine_laws.proofs.Runs.{tests_depend}
+use Rattle.machine_laws.specs.Consulted.{IsKnown, Agree, IsWhole}
+use Rattle.machine_laws.specs.Plain.{IsPlain, TestPlain}
+use Rattle.machine_laws.proofs.Known.{known_in, plain_seen}
+use Rattle.machine_laws.proofs.Agreeing.{adapters_agree}
+use Rattle.machine_laws.proofs.Runs.{grows_run, tests_depend}
 use Rattle.class_model.specs.declared.outcome.Outcome.{Outcome}
 use Rattle.record_rules.specs.declared.record.RunRecord.{RunRecord}
 use Rattle.record_rules.specs.Profiles.{Held, Profile, class_by}
@@ -18,8 +20,7 @@ use Rattle.record_rules.specs.Truth.{held_in, files_in, own_run, IsTrueRecord}
 use Rattle.reuse_laws.specs.Asking.{AreApart, IsProfile, AreSpelled}
 use Rattle.reuse_laws.specs.Reuse.{RecordsOfRunsAreTrue}
 use Rattle.reuse_laws.proofs.Tests.{or_either}
-use Rattle.reuse_laws.proofs.Growing.{grows_run}
-use Rattle.reuse_laws.proofs.Held.{class_same, library_name, all_at, bytes_same, in_listed, in_none, all_spelled}
+use Rattle.reuse_laws.proofs.Held.{class_same, fewer_apart, library_name, all_at, bytes_same, in_listed, in_none, all_spelled}
 use Rattle.reuse_laws.proofs.Reused.{has_outcome, recorded, went_right}
 
 -- a run on class files and the library, as they are
@@ -39,29 +40,36 @@ module _ (m : Profile) (ok : IsProfile m) (held : Held) (t : Test) (q : Limits) 
   abbrev less : Held
   less = held_in (with_bytes held names)
 
-  whole : IsLibraryWhole (class_by m held)
+  whole : IsWhole (class_by m held)
   whole = ok.whole held apart
 
-  less_same : (k : Name) → Seen (class_by m held) names k → less k ≡ held k
-  less_same k s =
+  plain : TestPlain t
+  plain = ok.plain held t.class t.method t apart found
+
+  less_same : (k : Name) → IsPlain k → IsKnown (class_by m held) names k → less k ≡ held k
+  less_same k p s =
       ⊎_elim
-      (λ (e : is_library (class_by m held k) ≡ true). let none = (library_name m ok held apart k e).0 in in_none held names k none ∙ sym none)
+      (λ (e : is_library (class_by m held k) ≡ true). let none = (library_name m ok held apart k p e).0 in in_none held names k none ∙ sym none)
       (λ (e : is_listed k names ≡ true). in_listed held names k e)
       (or_either (is_library (class_by m held k)) (is_listed k names) s)
 
   pub agree : Agree (class_by m held) (class_by m less) names
-  agree k s = class_same m held less k (less_same k s)
+  agree =
+      adapters_agree (class_by m held) (class_by m less) names whole.names whole.adapters
+      (ok.whole less (fewer_apart m held apart names)).adapters
+      (λ k p s. class_same m held less k p (less_same k p s))
 
-  seen_above : (k : Name) → Seen (class_by m held) (supers (class_by m held) t.class) k → Seen (class_by m held) names k
-  seen_above k s =
-      let first = all_at (class_by m held) (start (class_by m held) t).world.consulted (supers (class_by m held) t.class) k (seen_in (class_by m held) (supers (class_by m held) t.class) []) s in
-      grows_run (class_by m held) whole q limit 0 (start (class_by m held) t) (tt, tt) k first
+  seen_above : (k : Name) → IsPlain k → IsKnown (class_by m held) (supers (class_by m held) t.class) k → IsKnown (class_by m held) names k
+  seen_above k p s =
+      let first = all_at (class_by m held) (start (class_by m held) t).world.consulted (supers (class_by m held) t.class) k (known_in (class_by m held) (supers (class_by m held) t.class) []) s in
+      (grows_run (class_by m held) (class_by m held) whole q limit 0 (start (class_by m held) t) (tt, tt, plain.1) k
+      (plain_seen (class_by m held) (start (class_by m held) t).world.consulted k p first)).0
 
   found_less : m.test less t.class t.method ≡ Some t
-  found_less = ok.tests held less t.class t.method apart (λ k s. less_same k (seen_above k s)) ∙ found
+  found_less = ok.tests held less t.class t.method apart plain.0 (λ k p s. less_same k p (seen_above k p s)) ∙ found
 
   run_less : run (own_run m r t) ≡ run x
-  run_less = tests_depend (class_by m held) (class_by m less) t q limit whole (went_right m (run x) o told) agree
+  run_less = tests_depend (class_by m held) (class_by m less) t q limit whole plain (went_right m (run x) o told) agree
 
   made_less : record_with (own_run m r t) (run x) o ≡ r
   made_less = ap (λ (cs : List (Name × Option (List ℕ))). record r { consulted = cs }) (bytes_same held less names (λ n l. in_listed held names n l))

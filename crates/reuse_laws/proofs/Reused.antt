@@ -11,13 +11,15 @@ use Rattle.machine_rules.specs.declared.machine.Limits.{Limits}
 use Rattle.machine_rules.specs.Outcomes as machine
 use Rattle.machine_rules.specs.State.{start}
 use Rattle.machine_rules.specs.Runs.{Ending, With, StuckAt, Ran, run_of}
-use Rattle.machine_laws.specs.Consulted.{Seen, Agree, IsLibraryWhole}
+use Rattle.machine_laws.specs.Consulted.{IsKnown, Agree, IsWhole}
+use Rattle.machine_laws.specs.Plain.{IsPlain, TestPlain}
 use Rattle.machine_laws.specs.FrameLaw.{WentRight, HasEnded}
-use Rattle.machine_laws.proofs.Known.{seen_in}
-use Rattle.machine_laws.proofs.Runs.{tests_depend, same_limits}
+use Rattle.machine_laws.proofs.Known.{known_in, plain_seen}
+use Rattle.machine_laws.proofs.Agreeing.{adapters_agree}
+use Rattle.machine_laws.proofs.Runs.{grows_run, tests_depend, same_limits}
 use Rattle.class_model.specs.declared.outcome.Outcome.{Outcome}
 use Rattle.record_rules.specs.declared.record.RunRecord.{RunRecord}
-use Rattle.record_rules.specs.Profiles.{Profile}
+use Rattle.record_rules.specs.Profiles.{Profile, class_by}
 use Rattle.record_rules.specs.Outcomes.{outcome_in, outcome_at, outcome_of}
 use Rattle.record_rules.specs.Records.{Asked, run, with_bytes, record_with, record_by, record_of}
 use Rattle.record_rules.specs.Matching.{is_timed_out, fits_limit, holds_all}
@@ -28,7 +30,6 @@ use Rattle.reuse_laws.specs.Reuse.{MatchingRecordsAreRuns, TrueUnderLimits}
 use Rattle.reuse_laws.proofs.Tests.{or_either, some_is}
 use Rattle.reuse_laws.proofs.Held.{class_same, library_name, none_held, all_at, listed_same, bytes_same, held_at}
 use Rattle.reuse_laws.proofs.Matched.{IsMatch, is_match}
-use Rattle.reuse_laws.proofs.Growing.{grows_run}
 
 -- ---- a run that has a record
 
@@ -95,7 +96,7 @@ module _ (m : Profile) (ok : IsProfile m) (x : Asked) (r : RunRecord) (asked : I
   own_apart : AreApart m own.held
   own_apart = held_at (λ f. IsApart m f.0) r.consulted (ok.apart (files_in r.consulted) true_record.program)
 
-  own_whole : IsLibraryWhole own.look
+  own_whole : IsWhole own.look
   own_whole = ok.whole own.held own_apart
 
   names : with_bytes own.held (run own).consulted ≡ r.consulted
@@ -104,12 +105,15 @@ module _ (m : Profile) (ok : IsProfile m) (x : Asked) (r : RunRecord) (asked : I
   holds : holds_all x.look x.held (with_bytes own.held (run own).consulted) ≡ true
   holds = ap (holds_all x.look x.held) names ∙ match.holds
 
+  own_plain : TestPlain own.test
+  own_plain = ok.plain own.held r.test_class r.test_method own.test own_apart true_record.found
+
   -- the class files of both programs agree on what was consulted, and neither has any of the library
-  held_same : (k : Name) → Seen own.look (run own).consulted k → x.held k ≡ own.held k
-  held_same k s =
+  held_same : (k : Name) → IsPlain k → IsKnown own.look (run own).consulted k → x.held k ≡ own.held k
+  held_same k plain s =
       ⊎_elim
       (λ (e : is_library (own.look k) ≡ true).
-      let lib = library_name m ok own.held own_apart k e in
+      let lib = library_name m ok own.held own_apart k plain e in
       none_held m x.held asked.apart k lib.1 ∙ sym lib.0)
       (λ (e : is_listed k (run own).consulted ≡ true). listed_same x.look own.held x.held (run own).consulted k holds e)
       (or_either (is_library (own.look k)) (is_listed k (run own).consulted) s)
@@ -118,22 +122,25 @@ module _ (m : Profile) (ok : IsProfile m) (x : Asked) (r : RunRecord) (asked : I
   agree : Agree own.look x.look (run own).consulted
   agree =
       subst (λ (p : Look). Agree own.look p (run own).consulted) (sym asked.program)
-      (λ k s. class_same m own.held x.held k (held_same k s))
+      (adapters_agree own.look (class_by m x.held) (run own).consulted own_whole.names own_whole.adapters
+      (ok.whole x.held asked.apart).adapters
+      (λ k plain s. class_same m own.held x.held k plain (held_same k plain s)))
 
   class_is : own.test.class ≡ r.test_class
   class_is = ap (λ (z : RunRecord). z.test_class) has.made
 
   -- the test class is consulted first, with all above it
-  seen_above : (k : Name) → Seen own.look (supers own.look r.test_class) k → Seen own.look (run own).consulted k
-  seen_above k s =
-      let s' : Seen own.look (supers own.look own.test.class) k = subst (λ (c : Name). Seen own.look (supers own.look c) k) (sym class_is) s in
-      let first = all_at own.look (start own.look own.test).world.consulted (supers own.look own.test.class) k (seen_in own.look (supers own.look own.test.class) []) s' in
-      grows_run own.look own_whole own.limits own.limit 0 (start own.look own.test) (tt, tt) k first
+  seen_above : (k : Name) → IsPlain k → IsKnown own.look (supers own.look r.test_class) k → IsKnown own.look (run own).consulted k
+  seen_above k plain s =
+      let s' : IsKnown own.look (supers own.look own.test.class) k = subst (λ (c : Name). IsKnown own.look (supers own.look c) k) (sym class_is) s in
+      let first = all_at own.look (start own.look own.test).world.consulted (supers own.look own.test.class) k (known_in own.look (supers own.look own.test.class) []) s' in
+      (grows_run own.look own.look own_whole own.limits own.limit 0 (start own.look own.test) (tt, tt, own_plain.1) k
+      (plain_seen own.look (start own.look own.test).world.consulted k plain first)).0
 
   same_test : x.test ≡ own.test
   same_test =
       let here : m.test x.held r.test_class r.test_method ≡ Some x.test = (λ i. m.test x.held (match.class i) (match.method i)) ∙ asked.found in
-      let there = ok.tests own.held x.held r.test_class r.test_method own_apart (λ k s. held_same k (seen_above k s)) in
+      let there = ok.tests own.held x.held r.test_class r.test_method own_apart (subst IsPlain class_is own_plain.0) (λ k plain s. held_same k plain (seen_above k plain s)) in
       some_is x.test own.test (sym here ∙ there ∙ true_record.found)
 
   limited : run (record own { limit = x.limit }) ≡ run own
@@ -146,7 +153,7 @@ module _ (m : Profile) (ok : IsProfile m) (x : Asked) (r : RunRecord) (asked : I
   run_same =
       ap (λ (t : Test). run_of x.look t x.limits x.limit) same_test
       ∙ ap (λ (q : Limits). run_of x.look own.test q x.limit) (sym match.limits)
-      ∙ tests_depend own.look x.look own.test own.limits x.limit own_whole
+      ∙ tests_depend own.look x.look own.test own.limits x.limit own_whole own_plain
       (subst (λ (z : Ran). WentRight z.ending) (sym limited) right)
       (subst (λ (z : Ran). Agree own.look x.look z.consulted) (sym limited) agree)
       ∙ limited

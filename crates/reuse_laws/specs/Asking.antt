@@ -3,23 +3,26 @@ use Rattle.std.specs.Prelude.{◌≡◌, ℕ, true, false, List, All, Some, None
 use Rattle.program_rules.specs.Names.{Name}
 use Rattle.program_rules.specs.Linked.{Linked}
 use Rattle.program_rules.specs.Programs.{supers}
-use Rattle.machine_laws.specs.Consulted.{Seen, IsLibraryWhole}
+use Rattle.program_rules.specs.Tests.{Test}
+use Rattle.machine_laws.specs.Consulted.{IsWhole, IsKnown}
+use Rattle.machine_laws.specs.Plain.{IsPlain, TestPlain}
 use Rattle.record_rules.specs.Profiles.{Held, Profile, class_by, IsProgramOf}
 use Rattle.record_rules.specs.Records.{Asked}
 
--- A name is none of the library.
+-- A name is none of the library, and none of an adapter.
 abbrev pub IsApart : Profile → Name → Type 0
-IsApart m n = m.library n ≡ None
+IsApart m n = (m.library n ≡ None) × IsPlain n
 
--- No class file has the name of a library class.
+-- No class file has the name of a library class, nor that of an adapter.
 abbrev pub AreApart : Profile → Held → Type 0
 AreApart m held = (n : Name) (bytes : List ℕ) → held n ≡ Some bytes → IsApart m n
 
 -- The test of a method goes by the class files of its class and of all above that.
 abbrev pub TestsGoBySupers : Profile → Type 0
 TestsGoBySupers m =
-    (held held' : Held) (class method : Name) → AreApart m held →
-    ((k : Name) → Seen (class_by m held) (supers (class_by m held) class) k → held' k ≡ held k) →
+    (held held' : Held) (class method : Name) → AreApart m held → IsPlain class →
+    ((k : Name) → IsPlain k → IsKnown (class_by m held) (supers (class_by m held) class) k →
+    held' k ≡ held k) →
     m.test held' class method ≡ m.test held class method
 
 -- What a profile has to be.
@@ -29,11 +32,16 @@ pub record IsProfile (m : Profile) : Type 0 where
       (n : Name) (bytes : List ℕ) (c : Linked) → m.class n bytes ≡ Some c → c.library ≡ false
   -- and the library's are
   pub alone : (n : Name) (c : Linked) → m.library n ≡ Some c → c.library ≡ true
-  -- class files that are a program have no names of library classes
+  -- class files that are a program have no names of library classes or adapters
   pub apart : (fs : List (Name × List ℕ)) → m.builds fs ≡ true → All (λ f. IsApart m f.0) fs
-  -- beside class files that have none of its names the library is closed
-  pub whole : (held : Held) → AreApart m held → IsLibraryWhole (class_by m held)
+  -- beside class files that have none of its names the library is closed, no class names an
+  -- adapter, and each site has its own
+  pub whole : (held : Held) → AreApart m held → IsWhole (class_by m held)
   pub tests : TestsGoBySupers m
+  -- tests name no adapter
+  pub plain :
+      (held : Held) (class method : Name) (t : Test) → AreApart m held →
+      m.test held class method ≡ Some t → TestPlain t
 
 -- What is asked for is the run of a test of a program whose class files have none of the library's
 -- names. Nothing is asked of its code, so the program may be one that an edit makes.

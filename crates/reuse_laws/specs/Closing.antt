@@ -6,7 +6,8 @@ use Rattle.program_rules.specs.Programs.{Look, supers}
 use Rattle.program_rules.specs.Tests.{Test}
 use Rattle.machine_rules.specs.declared.machine.Limits.{Limits}
 use Rattle.machine_rules.specs.Runs.{run_of}
-use Rattle.machine_laws.specs.Consulted.{Seen}
+use Rattle.machine_laws.specs.Consulted.{IsKnown}
+use Rattle.machine_laws.specs.Plain.{IsPlain}
 use Rattle.record_rules.specs.declared.record.RunRecord.{RunRecord}
 use Rattle.record_rules.specs.Profiles.{Profile, class_by}
 use Rattle.record_rules.specs.Records.{Asked, record_of}
@@ -31,20 +32,22 @@ pub record AreClosed (p : Look) (ns : List Name) : Type 0 where
   pub differ : AreDifferentNames ns
   pub apart : (n : Name) → is_listed n ns ≡ true → is_library (p n) ≡ false
   pub above :
-      (n k : Name) → is_listed n ns ≡ true → is_listed k (parents_of (p n)) ≡ true → Seen p ns k
+      (n k : Name) → is_listed n ns ≡ true → is_listed k (parents_of (p n)) ≡ true → IsKnown p ns k
 
 abbrev pub RunsAreClosed : Type 0
 RunsAreClosed =
     (p : Look) (t : Test) (q : Limits) (limit : ℕ) → WalksAreClosed p →
     AreClosed p (run_of p t q limit).consulted
 
--- The second program has the same class as the first under each of these names and each name of the
--- library, and all supers of these are among them. So it has no fault of supers that the first
--- doesn't have: what is missing, of a wrong kind or above itself there would be so here.
+-- Adapters apart, the second program has the same class as the first under each of these names and
+-- each name of the library, and all supers of these are among them. So it has no fault of supers
+-- that the first doesn't have: what is missing, of a wrong kind or above itself there would be so
+-- here.
 pub record IsAlike (p p' : Look) (ns : List Name) : Type 0 where
-  pub same : (n : Name) → Seen p ns n → p' n ≡ p n
+  pub same : (n : Name) → IsPlain n → IsKnown p ns n → p' n ≡ p n
   pub above :
-      (n k : Name) → Seen p ns n → is_listed k (parents_of (p n)) ≡ true → Seen p ns k
+      (n k : Name) → IsPlain n → IsKnown p ns n → is_listed k (parents_of (p n)) ≡ true →
+      IsPlain k × IsKnown p ns k
   pub differ : AreDifferentNames ns
   pub apart : (n : Name) → is_listed n ns ≡ true → is_library (p n) ≡ false
 

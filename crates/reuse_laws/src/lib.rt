@@ -57,7 +57,7 @@ pub fn need_costs_no_more()
 
 /// What a run consulted are different names, none of the library, and with each class all that
 /// stands above it. So its class files are a program by themselves, where its program is one: under
-/// each name that was consulted that program has the same class, with the same supers.
+/// each name that it knows that program has the same class, with the same supers.
 pub fn runs_are_closed()
     ensures closed { RunsAreClosed }
     ensures alike { OwnProgramsAreAlike }

@@ -1,5 +1,5 @@
-use Rattle.std.proofs.Common.{◌≡◌, ◌∙◌, inl, inr, ⊎_elim, Bool, true, false, [], ◌∷◌, codes, refl, sym, subst, arith}
-use Rattle.std.specs.Prelude.{◌≢◌, if◌then◌else◌, Option, Some, None, List, map}
+use Rattle.std.proofs.Common.{◌≡◌, ◌∙◌, inl, inr, ⊎_elim, Bool, true, false, [], ◌∷◌, codes, refl, sym, ap, subst, arith}
+use Rattle.std.specs.Prelude.{◌≢◌, pos, slice_get, if◌then◌else◌, Option, Some, None, List, map}
 use Rattle.std.specs.Cmp.Lexicographic.{same_text}
 use Rattle.machine_rules.specs.Outcomes.{Passed}
 use Rattle.program_rules.specs.Names.{Name, same}
@@ -17,9 +17,13 @@ use Rattle.program_rules.specs.declared.value.Value.{Value}
 use Rattle.program_rules.specs.declared.value.Value.TheVariants.{Int, Long, Ref, Null}
 use Rattle.machine_rules.specs.Steps.{act, goes, step_of}
 use Rattle.machine_rules.specs.Runs.{With}
-use Rattle.program_rules.specs.Samples.{class_t, f_code}
+use Rattle.program_rules.specs.Samples.{class_t, f_code, f_first_return}
+use Rattle.program_rules.specs.Instructions.{Instruction, IntConstant, IntReturn}
 use Rattle.machine_rules.specs.Worked.{unasserted, roomy}
-use Rattle.machine_laws.specs.Consulted.{IsLibraryWhole}
+use Rattle.machine_laws.specs.Consulted.{IsWhole}
+use Rattle.machine_laws.specs.Plain.{TestPlain}
+use Rattle.machine_laws.proofs.Tested.{tested_plain}
+use Rattle.program_rules.specs.Sites.{is_dynamic}
 use Rattle.machine_laws.specs.FrameLaw.{WentRight, HasEnded}
 use Rattle.machine_laws.proofs.Witness.{whole}
 use Rattle.machine_laws.specs.Edit.{IsEdited}
@@ -35,11 +39,33 @@ other_case a b rest other n false h ne = refl
 others : (n : Name) → n ≢ codes "A" → mutant n ≡ original n
 others n ne = other_case _ _ (class_among ((codes "T", class_t) ∷ []) n) (class_among library_classes n) n (same (codes "A") n) refl ne
 
-edited : IsEdited first_return_edit original mutant
-edited = record { before = _; method = _; code = _; had = refl; from_file = refl; declares = refl; with_code = refl; room = omega arith; has = refl; others = others }
+replaced_return : (i : Instruction) → Some IntReturn ≡ Some i → is_dynamic i ≡ false
+replaced_return i h = let same : IntReturn ≡ i = cc in ap is_dynamic (sym same)
 
-library : IsLibraryWhole original
-library = whole (three_lines f_code 4) class_t refl refl
+keeps : (i : Instruction) → slice_get f_code 3 ≡ Some i → is_dynamic i ≡ false
+keeps i h = replaced_return i h
+
+edited : IsEdited first_return_edit original mutant
+edited = record { before = _; method = _; code = _; had = refl; from_file = refl; declares = refl; with_code = refl; room = omega arith; keeps_sites = keeps; adds_no_site = refl; has = refl; others = others }
+
+abbrev lists : Linked → List (Name × Linked)
+lists a = (codes "A", a) ∷ (codes "T", class_t) ∷ []
+
+library : IsWhole original
+library =
+    let plain = tested_plain (lists (three_lines f_code 4)) refl in
+    record { library = whole (three_lines f_code 4) class_t refl refl; names = plain.0; adapters = plain.1 }
+
+mutant_library : IsWhole mutant
+mutant_library =
+    let plain = tested_plain (lists (three_lines (f_first_return (IntConstant (pos 0))) 6)) refl in
+    record { library = whole (three_lines (f_first_return (IntConstant (pos 0))) 6) class_t refl refl; names = plain.0; adapters = plain.1 }
+
+plain_test : TestPlain zero_test
+plain_test = (refl, (tt, (refl, (refl, tt))))
+
+plain_neg : TestPlain neg_test
+plain_neg = (refl, (tt, (refl, (refl, tt))))
 
 zero_run : original_run zero_test ≡ record { ending = With Passed; steps = 15; consulted = codes "T" ∷ codes "A" ∷ []; reached = (codes "T", 0) ∷ (codes "A", 3) ∷ (codes "A", 4) ∷ [] }
 unfolding supers nodes act step_of family resolve_field resolve_method select_virtual select_named need_of is_instance
@@ -93,14 +119,16 @@ pub returns : goal.returns
 returns c = record {
   edited = edited;
   whole = library;
+  whole_too = mutant_library;
+  tests = (plain_test, plain_neg);
   goes_on = goes_on;
   zero_ended = zero_ended;
   zero_misses = zero_misses;
-  zero_same = tests_unreached first_return_edit original mutant zero_test roomy 1000000000 edited library zero_ended zero_misses;
+  zero_same = tests_unreached first_return_edit original mutant zero_test roomy 1000000000 edited library plain_test zero_ended zero_misses;
   neg_ended = neg_ended;
   neg_reaches = neg_reaches;
   neg_right = subst WentRight (sym mutant_ending) tt;
   neg_not_stuck = not_stuck;
-  neg_reaches_too = (tests_reach first_return_edit original mutant neg_test roomy 1000000000 edited library neg_ended).1 not_stuck neg_reaches;
+  neg_reaches_too = (tests_reach first_return_edit original mutant neg_test roomy 1000000000 edited library mutant_library plain_neg neg_ended).1 not_stuck neg_reaches;
   neg_fails = mutant_ending;
 }
