@@ -1,0 +1,5 @@
+mod WrittenLaws
+mod CodeLaws
+mod StatedLaws
+mod AdapterLaws
+mod SiteLaws
