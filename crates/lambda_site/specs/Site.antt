@@ -8,7 +8,7 @@ use Rattle.class_link.specs.declared.linked.MethodRef.{MethodRef}
 use Rattle.class_link.specs.Symbols.{kind_of, kind_stated, type_stated}
 use Rattle.class_link.specs.View.{bootstrap_of}
 use Rattle.lambda_site.specs.declared.op.Op.{Op}
-use Rattle.lambda_site.specs.declared.site.Site as code
+use Rattle.lambda_site.specs.declared.site.CallSite as code
 use Rattle.lambda_site.specs.Codes.{op_descriptor, op_code}
 
 abbrev pub site_view : Name → List Kind → Name → Bootstrap → Site
@@ -40,10 +40,10 @@ abbrev pub boot_at : List (Option Bootstrap) → ℕ → Option Bootstrap
 boot_at bs place = boot_of (slice_get bs place)
 
 -- The code's site is one of the rules, and has the code of the adapter of this name.
-pub record IsSiteWith (own : Name) (o : Option Site) (s : code.Site) (ops : List Op) : Type 0 where
+pub record IsSiteWith (own : Name) (o : Option Site) (s : code.CallSite) (ops : List Op) : Type 0 where
   pub is : o ≡ Some (site_view s.name.now s.captured.now s.interface.now s.boot.now)
   pub code : op_code own s.captured.now s.boot.now ≡ Some ops
 
-abbrev pub IsSite : Name → Option Site → Option (code.Site × List Op) → Type 0
+abbrev pub IsSite : Name → Option Site → Option (code.CallSite × List Op) → Type 0
 IsSite own o None = o ≡ None
 IsSite own o (Some x) = IsSiteWith own o x.0 x.1

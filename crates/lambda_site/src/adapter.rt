@@ -10,7 +10,7 @@ ghost use Rattle.lambda_site.specs.Site.{site_view};
 use crate::call::{descriptor, field_name};
 use crate::heights::{locals_of, most_words};
 use crate::op::Op;
-use crate::site::Site;
+use crate::site::CallSite;
 use crate::writing::written;
 use class_link::{LibBody, LibClass, LibField, LibMethod};
 use class_model::names::ascii;
@@ -111,7 +111,7 @@ pub fn adapter(
     alloc: Global,
     own: &Name,
     there: bool,
-    site: Site,
+    site: CallSite,
     ops: &[Op],
 ) -> Result<LibClass, Memory>
     requires code { op_code own.now site.captured.now site.boot.now ≡ Some ops.now }

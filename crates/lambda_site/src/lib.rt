@@ -14,4 +14,4 @@ mod writing;
 pub use adapter::adapter;
 pub use name::site_name;
 pub use op::{Member, Op};
-pub use site::{Site, site};
+pub use site::{CallSite, site};

@@ -17,7 +17,7 @@ use std::alloc::Global;
 /// A call site: the interface's method by name, what is captured, the interface, and the bootstrap
 /// method.
 #[derive(Clone, Copy)]
-pub struct Site<'a> {
+pub struct CallSite<'a> {
     pub name: &'a Name,
     pub captured: &'a [Kind],
     pub interface: &'a Name,
@@ -102,8 +102,8 @@ fn formed<'a>(
     alloc: Global,
     class: &Name,
     own: &Name,
-    site: Site<'a>,
-) -> Result<Option<(Site<'a>, Seq<Op>)>, Memory>
+    site: CallSite<'a>,
+) -> Result<Option<(CallSite<'a>, Seq<Op>)>, Memory>
     ensures { IfOk result (IsSite own.now (rules.if_formed class.now
         (site_view site.name.now site.captured.now site.interface.now site.boot.now))) }
 {
@@ -135,7 +135,7 @@ pub fn site<'a>(
     own: &Name,
     bootstraps: &'a [Option<Bootstrap>],
     dynamic: &'a DynamicRef,
-) -> Result<Option<(Site<'a>, Seq<Op>)>, Memory>
+) -> Result<Option<(CallSite<'a>, Seq<Op>)>, Memory>
     ensures { IfOk result (IsSite own.now (rules.site_of class.now (bootstraps_of bootstraps.now)
         (dynamic_ref_of dynamic.now))) }
 {
@@ -148,7 +148,7 @@ pub fn site<'a>(
     if let [0x5b, ..] = interface.as_slice() {
         return Ok(None);
     }
-    let site = Site {
+    let site = CallSite {
         name: &dynamic.name,
         captured: dynamic.args.as_slice(),
         interface,
