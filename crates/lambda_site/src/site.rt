@@ -1,10 +1,11 @@
 //! What a call site says, if it is of the form that is run.
 
-ghost use Rattle.std.specs.Prelude.{◌≡◌, None, Some, MatchOption, IfOk};
+ghost use Rattle.std.specs.Prelude.{◌≡◌, None, Some, MatchOption, IfSome, IfNone, IfOk};
+ghost use Rattle.program_rules.specs.Names.{is_array_name};
 ghost use Rattle.program_rules.specs.Sites as rules;
-ghost use Rattle.class_link.specs.View.{bootstrap_of, bootstraps_of, dynamic_ref_of};
+ghost use Rattle.class_link.specs.View.{bootstrap_of};
 ghost use Rattle.lambda_site.specs.Codes.{op_arguments, op_given, op_converts_result, op_parts, op_code_with, op_code};
-ghost use Rattle.lambda_site.specs.Site.{site_view, IsSite, boot_at};
+ghost use Rattle.lambda_site.specs.Site.{GivesClass, GivesNoClass, IsFormed, IsSite, boot_at};
 
 use crate::call::{append, arguments, calls, captured, given, returns, starts, taken};
 use crate::conversion::converts_result;
@@ -95,25 +96,21 @@ fn is_right_target(class: &Name, boot: &Bootstrap) -> bool
         || boot.kind == 9
 }
 
-/// A site, where its target is right and all that is given converts; with the code of the adapter
-/// of this name.
+/// The code of the adapter of this name, where the site's target is right and all that is given
+/// converts.
 #[tactic(auto, using(crate::proofs::SiteLaws::formed_some, crate::proofs::SiteLaws::formed_none, crate::proofs::SiteLaws::formed_wrong))]
-fn formed<'a>(
+fn formed(
     alloc: Global,
     class: &Name,
     own: &Name,
-    site: CallSite<'a>,
-) -> Result<Option<(CallSite<'a>, Seq<Op>)>, Memory>
-    ensures { IfOk result (IsSite own.now (rules.if_formed class.now
-        (site_view site.name.now site.captured.now site.interface.now site.boot.now))) }
+    site: CallSite,
+) -> Result<Option<Seq<Op>>, Memory>
+    ensures { IfOk result (IsFormed class.now own.now site) }
 {
     if !is_right_target(class, site.boot) {
         return Ok(None);
     }
-    match code(alloc, own, site.captured, site.boot)? {
-        Some(ops) => Ok(Some((site, ops))),
-        None => Ok(None),
-    }
+    code(alloc, own, site.captured, site.boot)
 }
 
 fn boot_at(bootstraps: &[Option<Bootstrap>], place: u16) -> Option<&Bootstrap>
@@ -126,9 +123,30 @@ fn boot_at(bootstraps: &[Option<Bootstrap>], place: u16) -> Option<&Bootstrap>
     }
 }
 
+/// Whether a name is an array's descriptor.
+fn is_array_name(name: &[u16]) -> bool
+    ensures { result ≡ is_array_name name.now }
+{
+    match name {
+        [first, ..] => *first == 0x5b,
+        [] => false,
+    }
+}
+
+/// The class that is given, if it is one and no array.
+fn class_given(given: &Option<Kind>) -> Option<&Name>
+    ensures none { IfNone result (GivesNoClass given.now) }
+    ensures some { IfSome result (λ n. GivesClass given.now n.now) }
+{
+    match given {
+        Some(Kind::Ref(name)) if !is_array_name(name.as_slice()) => Some(name),
+        _ => None,
+    }
+}
+
 /// The site that an instruction of a class is, if it is of the form that is run, with the code of
 /// the adapter of this name.
-#[tactic(auto, using(crate::proofs::SiteLaws::site_is))]
+#[tactic(auto, using(crate::proofs::SiteLaws::site_bare, crate::proofs::SiteLaws::site_other, crate::proofs::SiteLaws::site_class))]
 pub fn site<'a>(
     alloc: Global,
     class: &Name,
@@ -136,23 +154,22 @@ pub fn site<'a>(
     bootstraps: &'a [Option<Bootstrap>],
     dynamic: &'a DynamicRef,
 ) -> Result<Option<(CallSite<'a>, Seq<Op>)>, Memory>
-    ensures { IfOk result (IsSite own.now (rules.site_of class.now (bootstraps_of bootstraps.now)
-        (dynamic_ref_of dynamic.now))) }
+    ensures { IfOk result (IsSite class.now own.now bootstraps.now dynamic.now) }
 {
     let Some(boot) = boot_at(bootstraps, dynamic.bootstrap) else {
         return Ok(None);
     };
-    let Some(Kind::Ref(interface)) = &*dynamic.result else {
+    let Some(interface) = class_given(&dynamic.result) else {
         return Ok(None);
     };
-    if let [0x5b, ..] = interface.as_slice() {
-        return Ok(None);
-    }
     let site = CallSite {
         name: &dynamic.name,
         captured: dynamic.args.as_slice(),
         interface,
         boot,
     };
-    formed(alloc, class, own, site)
+    match formed(alloc, class, own, site)? {
+        Some(ops) => Ok(Some((site, ops))),
+        None => Ok(None),
+    }
 }
