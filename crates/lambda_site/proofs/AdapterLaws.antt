@@ -99,8 +99,8 @@ module _ (name interface : Name) (ks : List Kind) (b : Bootstrap) where
       ap (λ js. linked_method name b.desc args result (linked_code (op_most 0 os) locals js)) is
       ∙ ap (λ n. linked_method name b.desc args result (linked_code n locals (ops_of os))) (sym (most_is 0 os))
       ∙ ap (λ n. linked_method name b.desc args result (linked_code (most_words 0 (ops_of os)) (1 + n) (ops_of os))) (sym (all_words b.args))
-      ∙ ap (λ ks. linked_method name b.desc ks result (linked_code (most_words 0 (ops_of os)) (1 + words_of_kinds (map kind_of b.args)) (ops_of os))) (sym stated.args)
-      ∙ ap (λ k. linked_method name b.desc b.args k (linked_code (most_words 0 (ops_of os)) (1 + words_of_kinds (map kind_of b.args)) (ops_of os))) (sym stated.result)
+      ∙ ap (λ ks. linked_method name b.desc ks result (linked_code (most_words 0 (ops_of os)) (1 + words_of_kinds (map kind_of b.args)) (ops_of os))) (sym stated.boot.args)
+      ∙ ap (λ k. linked_method name b.desc b.args k (linked_code (most_words 0 (ops_of os)) (1 + words_of_kinds (map kind_of b.args)) (ops_of os))) (sym stated.boot.result)
 
   -- ---- the class
 
@@ -111,7 +111,7 @@ module _ (name interface : Name) (ks : List Kind) (b : Bootstrap) where
       → link_library (lib_class own (lib_interfaces there interface) pool (lib_fields 0 ks) (lib_method name b.desc (lib_code (op_most 0 os) (1 + kinds_words b.args) insns))) ≡ adapter own there site
   unfolding link_library
   adapter_is own there pool insns os e stated means =
-      let code : adapter_code own site ≡ Some (ops_of os) = sym (code_is own name interface ks b stated.captured stated.target) ∙ ap (option_map ops_of) e in
+      let code : adapter_code own site ≡ Some (ops_of os) = sym (code_is own name interface ks b stated.captured stated.boot.target) ∙ ap (option_map ops_of) e in
       ap (λ fs. linked_class there fs (library_method pool (lib_method name b.desc (lib_code (op_most 0 os) (1 + kinds_words b.args) insns)))) (fields_are 0 ks stated.captured)
       ∙ ap (linked_class there (captured_fields 0 (map kind_of ks))) (method_is pool insns os stated means)
       ∙ ap (λ o. adapter_with there site (code_or_none o)) (sym code)

@@ -16,12 +16,16 @@ use Rattle.class_link.specs.Symbols.{type_stated}
 use Rattle.lambda_site.specs.Codes.{op_descriptor, field_name}
 use Rattle.lambda_site.specs.Site.{IsStatedKind, IsStatedCall}
 
--- All kinds of a site are those that descriptors state.
-pub record IsStatedSite (captured : List Kind) (b : Bootstrap) : Type 0 where
-  pub captured : AllByRecursion IsStatedKind captured
+-- All kinds of a bootstrap method are those that descriptors state.
+pub record IsStatedBoot (b : Bootstrap) : Type 0 where
   pub args : b.args ≡ (type_stated b.desc).args
   pub result : b.result ≡ (type_stated b.desc).ret
   pub target : IsStatedCall b.target
+
+-- The same of a site.
+pub record IsStatedSite (captured : List Kind) (b : Bootstrap) : Type 0 where
+  pub captured : AllByRecursion IsStatedKind captured
+  pub boot : IsStatedBoot b
 
 abbrev pub lib_code : ℕ → ℕ → List Insn → Code
 lib_code stack locals insns =

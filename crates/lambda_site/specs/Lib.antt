@@ -3,4 +3,5 @@ pub mod Codes
 pub mod Heights
 pub mod Site
 pub mod Adapter
+pub mod Sites
 pub mod Written
