@@ -20,7 +20,7 @@ use Rattle.class_link.specs.Symbols.{name_or_empty, symbol_or_other, symbol_at, 
 use Rattle.class_link.proofs.AppendedLaws.{entry_kept, text_kept, formed, meaning_case, some_of}
 
 -- No entry, or one that no bootstrap method can name.
-IsNone : Option Const → Type 0
+abbrev IsNone : Option Const → Type 0
 IsNone None = ⊤
 IsNone (Some c) = IsNoArgument c
 
@@ -34,13 +34,13 @@ behind_is (x ∷ xs) ys (suc k) e all = behind_is xs ys k e all
 three : (f : Option Name → Option (ℕ × MethodRef) → Option Name → Option Bootstrap) (a a' : Option Name) (b b' : Option (ℕ × MethodRef)) (c c' : Option Name) → a ≡ a' → b ≡ b' → c ≡ c' → f a b c ≡ f a' b' c'
 three f a a' b b' c c' p q r = ap (λ x. f x b c) p ∙ ap (λ x. f a' x c) q ∙ ap (f a' b') r
 
-module _ (pool more : List Const) (form : IsPoolForm pool) (no : AllByRecursion IsNoArgument more) where
+module _ (pool more : List Const) (form : IsPoolForm pool) (free : AllByRecursion IsNoArgument more) where
   abbrev longer : List Const
   longer = pool ++ more
 
   none_case : (b : Bool) (k : ℕ) → (if b then None else slice_get pool k) ≡ None → IsNone (if b then None else slice_get longer k)
   none_case true k e = tt
-  none_case false k e = behind_is pool more k e no
+  none_case false k e = behind_is pool more k e free
 
   none_there : (i : ℕ) → entry_of pool i ≡ None → IsNone (entry_of longer i)
   none_there i e = none_case (i == 0) (i - 1) e
@@ -168,6 +168,6 @@ module _ (pool more : List Const) (form : IsPoolForm pool) (no : AllByRecursion 
       ∙ ap (λ ts. if same (text_named pool (out-Attr a).name) (codes "BootstrapMethods") then raw ∷ ts else ts) (tables_kept attrs h.1)
 
 pub appended_keep_bootstraps : (c : Class) (more : List Const) → IsPoolForm c.pool → AllByRecursion (HasName c.pool) c.attrs → AllByRecursion IsNoArgument more → bootstraps_in (with_added more c) ≡ bootstraps_in c
-appended_keep_bootstraps c more form names no =
-    ap (λ ts. map (bootstrap_in (c.pool ++ more)) (entries_by ts)) (tables_kept c.pool more form no c.attrs names)
-    ∙ entries_same c.pool more form no (entries_by (tables_of c.pool c.attrs))
+appended_keep_bootstraps c more form names free =
+    ap (λ ts. map (bootstrap_in (c.pool ++ more)) (entries_by ts)) (tables_kept c.pool more form free c.attrs names)
+    ∙ entries_same c.pool more form free (entries_by (tables_of c.pool c.attrs))

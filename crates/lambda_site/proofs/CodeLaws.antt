@@ -39,7 +39,7 @@ joined_again (Some xs) (Some ys) (Some zs) = ap (λ (is : List Instruction). Som
 
 -- ---- conversions
 
-IsPrimitive : Kind → Type 0
+abbrev IsPrimitive : Kind → Type 0
 IsPrimitive (kind.Ref n) = ⊥
 IsPrimitive kind.Boolean = ⊤
 IsPrimitive kind.Byte = ⊤
@@ -147,19 +147,19 @@ converts_are kind.Long kind.Short = refl
 converts_are kind.Long kind.Int = refl
 converts_are kind.Long kind.Long = refl
 
+converts_some : (j k : Kind) → option_map ops_of (op_converts j k) ≡ converts_result (Some (kind_of j)) (Some (kind_of k))
+converts_some kind.Boolean k = converts_are kind.Boolean k
+converts_some kind.Byte k = converts_are kind.Byte k
+converts_some kind.Char k = converts_are kind.Char k
+converts_some kind.Short k = converts_are kind.Short k
+converts_some kind.Int k = converts_are kind.Int k
+converts_some kind.Long k = converts_are kind.Long k
+converts_some (kind.Ref n) k = converts_are (kind.Ref n) k
+
 pub result_converts : (j k : Option Kind) → option_map ops_of (op_converts_result j k) ≡ converts_result (option_map kind_of j) (option_map kind_of k)
 result_converts None None = refl
 result_converts None (Some k) = refl
 result_converts (Some j) (Some k) = converts_some j k
-  where
-    converts_some : (j k : Kind) → option_map ops_of (op_converts j k) ≡ converts_result (Some (kind_of j)) (Some (kind_of k))
-    converts_some kind.Boolean k = converts_are kind.Boolean k
-    converts_some kind.Byte k = converts_are kind.Byte k
-    converts_some kind.Char k = converts_are kind.Char k
-    converts_some kind.Short k = converts_are kind.Short k
-    converts_some kind.Int k = converts_are kind.Int k
-    converts_some kind.Long k = converts_are kind.Long k
-    converts_some (kind.Ref n) k = converts_are (kind.Ref n) k
 result_converts (Some kind.Boolean) None = refl
 result_converts (Some kind.Byte) None = refl
 result_converts (Some kind.Char) None = refl

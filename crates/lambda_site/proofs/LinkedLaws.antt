@@ -90,13 +90,13 @@ ref_stated pool (Some (const.MethodKind desc)) s e = absurd cc
 ref_stated pool (Some (const.Dynamic bootstrap pair)) s e = absurd cc
 ref_stated pool (Some const.Second) s e = absurd cc
 
+ref_in : MethodRef → Option (ℕ × MethodRef) → MethodRef
+ref_in r None = r
+ref_in r (Some x) = x.1
+
 handle_case : (k : ℕ) (o : Option MethodRef) (h : ℕ × MethodRef) → ((s : MethodRef) → o ≡ Some s → IsRefStated s) → option_map (λ (r : MethodRef). (k, r)) o ≡ Some h → IsRefStated h.1
 handle_case k None h stated e = absurd cc
-handle_case k (Some r) h stated e = let same : r ≡ h.1 = ap (λ (o : Option (ℕ × MethodRef)). ref_in o) e in subst IsRefStated same (stated r refl)
-  where
-    ref_in : Option (ℕ × MethodRef) → MethodRef
-    ref_in None = r
-    ref_in (Some x) = x.1
+handle_case k (Some r) h stated e = let same : r ≡ h.1 = ap (ref_in r) e in subst IsRefStated same (stated r refl)
 
 handle_stated : (pool : List Const) (o : Option Const) (h : ℕ × MethodRef) → handle_of pool o ≡ Some h → IsRefStated h.1
 handle_stated pool None h e = absurd cc

@@ -24,44 +24,44 @@ use Rattle.lambda_site.specs.Sites.{dynamic_index, dynamic_entry, dynamic_at}
 -- ---- all but one kind are none
 
 text_no : (made : Name → Instruction) → ((x : Name) → is_dynamic (made x) ≡ false) → (s : Symbol) → is_dynamic (on_text made s) ≡ false
-text_no made no IsOther = refl
-text_no made no (IsInteger z) = refl
-text_no made no (IsLong z) = refl
-text_no made no (IsText t) = no t
-text_no made no (IsClass n) = refl
-text_no made no (IsField f) = refl
-text_no made no (IsMethod m) = refl
-text_no made no (IsDynamic r) = refl
+text_no made plain IsOther = refl
+text_no made plain (IsInteger z) = refl
+text_no made plain (IsLong z) = refl
+text_no made plain (IsText t) = plain t
+text_no made plain (IsClass n) = refl
+text_no made plain (IsField f) = refl
+text_no made plain (IsMethod m) = refl
+text_no made plain (IsDynamic r) = refl
 
 class_no : (made : Name → Instruction) → ((x : Name) → is_dynamic (made x) ≡ false) → (s : Symbol) → is_dynamic (on_class made s) ≡ false
-class_no made no IsOther = refl
-class_no made no (IsInteger z) = refl
-class_no made no (IsLong z) = refl
-class_no made no (IsText t) = refl
-class_no made no (IsClass n) = no n
-class_no made no (IsField f) = refl
-class_no made no (IsMethod m) = refl
-class_no made no (IsDynamic r) = refl
+class_no made plain IsOther = refl
+class_no made plain (IsInteger z) = refl
+class_no made plain (IsLong z) = refl
+class_no made plain (IsText t) = refl
+class_no made plain (IsClass n) = plain n
+class_no made plain (IsField f) = refl
+class_no made plain (IsMethod m) = refl
+class_no made plain (IsDynamic r) = refl
 
 field_no : (made : FieldRef → Instruction) → ((x : FieldRef) → is_dynamic (made x) ≡ false) → (s : Symbol) → is_dynamic (on_field made s) ≡ false
-field_no made no IsOther = refl
-field_no made no (IsInteger z) = refl
-field_no made no (IsLong z) = refl
-field_no made no (IsText t) = refl
-field_no made no (IsClass n) = refl
-field_no made no (IsField f) = no f
-field_no made no (IsMethod m) = refl
-field_no made no (IsDynamic r) = refl
+field_no made plain IsOther = refl
+field_no made plain (IsInteger z) = refl
+field_no made plain (IsLong z) = refl
+field_no made plain (IsText t) = refl
+field_no made plain (IsClass n) = refl
+field_no made plain (IsField f) = plain f
+field_no made plain (IsMethod m) = refl
+field_no made plain (IsDynamic r) = refl
 
 method_no : (made : MethodRef → Instruction) → ((x : MethodRef) → is_dynamic (made x) ≡ false) → (s : Symbol) → is_dynamic (on_method made s) ≡ false
-method_no made no IsOther = refl
-method_no made no (IsInteger z) = refl
-method_no made no (IsLong z) = refl
-method_no made no (IsText t) = refl
-method_no made no (IsClass n) = refl
-method_no made no (IsField f) = refl
-method_no made no (IsMethod m) = no m
-method_no made no (IsDynamic r) = refl
+method_no made plain IsOther = refl
+method_no made plain (IsInteger z) = refl
+method_no made plain (IsLong z) = refl
+method_no made plain (IsText t) = refl
+method_no made plain (IsClass n) = refl
+method_no made plain (IsField f) = refl
+method_no made plain (IsMethod m) = plain m
+method_no made plain (IsDynamic r) = refl
 
 table_no : (o : Option Switch) → is_dynamic (table_of o) ≡ false
 table_no None = refl

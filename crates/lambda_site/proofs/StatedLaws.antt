@@ -36,12 +36,12 @@ first_part : (parts : List (List ℕ)) → list_all is_field_name (onto_first 91
 first_part [] e = no_bracket [] (and_true _ _ e).0
 first_part (part ∷ parts) e = no_bracket part (and_true _ _ e).0
 
+by_code : (u : ℕ) (us : List ℕ) → u ≡ 91 → is_class_name (u ∷ us) ≡ true → ⊥
+by_code u us same e = first_part (slice_split (λ unit. unit == 47) us) (let here : is_class_name (91 ∷ us) ≡ true = ap (λ v. is_class_name (v ∷ us)) (sym same) ∙ e in here)
+
 bracket_case : (u : ℕ) (us : List ℕ) (b : Bool) → nat_eq u 91 ≡ b → is_class_name (u ∷ us) ≡ true → b ≡ false
 bracket_case u us false h e = refl
 bracket_case u us true h e = absurd (by_code u us (eqb-true u 91 h) e)
-  where
-    by_code : (u : ℕ) (us : List ℕ) → u ≡ 91 → is_class_name (u ∷ us) ≡ true → ⊥
-    by_code u us same e = first_part (slice_split (λ unit. unit == 47) us) (let here : is_class_name (91 ∷ us) ≡ true = ap (λ v. is_class_name (v ∷ us)) (sym same) ∙ e in here)
 
 plain_name : (name : Name) → is_class_name name ≡ true → is_array_name name ≡ false
 plain_name [] e = refl
@@ -52,6 +52,10 @@ plain_name (u ∷ us) e = bracket_case u us (nat_eq u 91) refl e
 object_text : (name : Name) (b : Bool) → b ≡ false → (if b then name else codes "L" ++ name ++ codes ";") ≡ 76 ∷ name ++ 59 ∷ []
 object_text name false h = refl
 object_text name true h = absurd cc
+
+array_text : (t : FieldType) (k : Kind) (o : Option Kind) → option_map (λ (j : Kind). kind.Ref (field_text (array t))) o ≡ Some k → op_descriptor k ≡ field_text (array t)
+array_text t k None e = absurd cc
+array_text t k (Some j) e = let same : kind.Ref (field_text (array t)) ≡ k = cc in ap op_descriptor (sym same)
 
 text_is : (t : FieldType) (k : Kind) → IsFieldType t → grammar.kind_of t ≡ Some k → op_descriptor k ≡ field_text t
 text_is (base byte) k form e = let same : kind.Byte ≡ k = cc in ap op_descriptor (sym same)
@@ -65,11 +69,7 @@ text_is (base boolean) k form e = let same : kind.Boolean ≡ k = cc in ap op_de
 text_is (object name) k form e =
     let same : kind.Ref name ≡ k = cc in
     ap op_descriptor (sym same) ∙ object_text name (is_array_name name) (plain_name name form)
-text_is (array t) k form e = array_text (grammar.kind_of t) e
-  where
-    array_text : (o : Option Kind) → option_map (λ j. kind.Ref (field_text (array t))) o ≡ Some k → op_descriptor k ≡ field_text (array t)
-    array_text None e = absurd cc
-    array_text (Some j) e = let same : kind.Ref (field_text (array t)) ≡ k = cc in ap op_descriptor (sym same)
+text_is (array t) k form e = array_text t k (grammar.kind_of t) e
 
 read_by : (o : Option FieldType) (t : FieldType) (k : Kind) → o ≡ Some t → grammar.kind_of t ≡ Some k → kind_or_empty (meaning_or_fault grammar.kind_of o) ≡ k
 read_by o t k is means = ap (λ p. kind_or_empty (meaning_or_fault grammar.kind_of p)) is ∙ ap (λ m. kind_or_empty (ok_or m desc_fault.Float)) means
@@ -93,17 +93,17 @@ kinds_are : (ts : List FieldType) (ks : List Kind) → AllByRecursion IsFieldTyp
 kinds_are [] ks form e = let same : [] ≡ ks = cc in subst (AllByRecursion IsStatedKind) same tt
 kinds_are (t ∷ ts) ks form e = head_case t ts (grammar.kind_of t) (grammar.kinds_of ts) ks refl refl e form.0 (λ js f. kinds_are ts js form.1 f)
 
+args_in : Option MethodType → List Kind
+args_in None = []
+args_in (Some t) = t.args
+
 args_case : (m : MethodDescriptor) (p : Option (List Kind)) (q : Option (Option Kind)) (types : MethodType) → grammar.kinds_of m.parameters ≡ p → option_and_then (λ args. option_map (λ (ret : Option Kind). record { args = args; ret = ret }) q) p ≡ Some types
     → AllByRecursion IsFieldType m.parameters → AllByRecursion IsStatedKind types.args
 args_case m None q types a e form = absurd cc
 args_case m (Some args) None types a e form = absurd cc
 args_case m (Some args) (Some ret) types a e form =
-    let same : args ≡ types.args = ap (λ (o : Option MethodType). args_in o) e in
+    let same : args ≡ types.args = ap args_in e in
     subst (AllByRecursion IsStatedKind) same (kinds_are m.parameters args form a)
-  where
-    args_in : Option MethodType → List Kind
-    args_in None = []
-    args_in (Some t) = t.args
 
 read_case : (desc : Name) (r : Result MethodType DescFault) → method_kinds desc ≡ r → AllByRecursion IsStatedKind (type_or_empty r).args
 read_case desc (Err e) h = tt
