@@ -28,9 +28,10 @@ module _ (front xs : List Const) where
   abbrev n : ℕ
   n = length front
 
-  entry_is : (k : ℕ) (c : Const) → slice_get xs k ≡ Some c → entry_of (front ++ xs) (suc (k + n)) ≡ Some c
-  entry_is k c e =
-      place_case (front ++ xs) (k + n) (suc (k + n) == 0) refl
+  entry_is : (k i : ℕ) (c : Const) → i ≡ suc (k + n) → slice_get xs k ≡ Some c → entry_of (front ++ xs) i ≡ Some c
+  entry_is k i c at e =
+      ap (entry_of (front ++ xs)) at
+      ∙ place_case (front ++ xs) (k + n) (suc (k + n) == 0) refl
       ∙ behind_same front xs (k + n) (omega arith)
       ∙ ap (slice_get xs) (let place : (k + n) - n ≡ k = omega arith in place)
       ∙ e
@@ -61,20 +62,20 @@ module _ (front behind : List Const) where
   class_symbol : (class : Name) → symbol_at (front ++ (class_block m class ++ behind)) (2 + m) ≡ IsClass class
   class_symbol class =
       let xs = class_block m class ++ behind in
-      ap (symbol_or_other (front ++ xs)) (entry_is front xs 1 (const.Class (1 + m)) refl)
-      ∙ ap (λ o. IsClass (name_or_empty o)) (text_is (front ++ xs) (1 + m) class (entry_is front xs 0 (const.Utf8 class) refl))
+      ap (symbol_or_other (front ++ xs)) (entry_is front xs 1 (2 + m) (const.Class (1 + m)) (omega arith) refl)
+      ∙ ap (λ o. IsClass (name_or_empty o)) (text_is (front ++ xs) (1 + m) class (entry_is front xs 0 (1 + m) (const.Utf8 class) (omega arith) refl))
 
   member_symbol : (x : Member) (last : Const) (f : Option Name → Option Name → Option Name → Symbol) → ((pool : List Const) → symbol_or_other pool (Some last) ≡ f (class_name_of pool (2 + m)) (pair_name_of pool (5 + m)) (pair_desc_of pool (5 + m)))
       → symbol_at (front ++ ((parts_block m x ++ last ∷ []) ++ behind)) (6 + m) ≡ f (Some x.class) (Some x.name) (Some x.desc)
   member_symbol x last f by =
       let xs = (parts_block m x ++ last ∷ []) ++ behind in
       let pool = front ++ xs in
-      ap (symbol_or_other pool) (entry_is front xs 5 last refl)
+      ap (symbol_or_other pool) (entry_is front xs 5 (6 + m) last (omega arith) refl)
       ∙ by pool
       ∙ three f _ _ _ _ _ _
-      (class_is pool (2 + m) (1 + m) x.class (entry_is front xs 1 (const.Class (1 + m)) refl) (entry_is front xs 0 (const.Utf8 x.class) refl))
-      (name_is pool (5 + m) (3 + m) (4 + m) x.name (entry_is front xs 4 (const.Pair (3 + m) (4 + m)) refl) (entry_is front xs 2 (const.Utf8 x.name) refl))
-      (desc_is pool (5 + m) (3 + m) (4 + m) x.desc (entry_is front xs 4 (const.Pair (3 + m) (4 + m)) refl) (entry_is front xs 3 (const.Utf8 x.desc) refl))
+      (class_is pool (2 + m) (1 + m) x.class (entry_is front xs 1 (2 + m) (const.Class (1 + m)) (omega arith) refl) (entry_is front xs 0 (1 + m) (const.Utf8 x.class) (omega arith) refl))
+      (name_is pool (5 + m) (3 + m) (4 + m) x.name (entry_is front xs 4 (5 + m) (const.Pair (3 + m) (4 + m)) (omega arith) refl) (entry_is front xs 2 (3 + m) (const.Utf8 x.name) (omega arith) refl))
+      (desc_is pool (5 + m) (3 + m) (4 + m) x.desc (entry_is front xs 4 (5 + m) (const.Pair (3 + m) (4 + m)) (omega arith) refl) (entry_is front xs 3 (4 + m) (const.Utf8 x.desc) (omega arith) refl))
 
   field_symbol : (x : Member) → symbol_at (front ++ (field_block m x ++ behind)) (6 + m) ≡ IsField (field_ref x.class x.name x.desc)
   field_symbol x = member_symbol x (const.Field (2 + m) (5 + m)) (λ a b c. IsField (field_ref (name_or_empty a) (name_or_empty b) (name_or_empty c))) (λ pool. refl)

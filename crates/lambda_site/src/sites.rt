@@ -153,7 +153,7 @@ pub fn put_adapters(
         entries: class.entries.as_slice(),
         interfaces,
     };
-    for (place, method) in class.methods.iter().enumerate() {
+    for (place, method) in class.methods.as_slice().iter().enumerate() {
         put_body(alloc, told, place, &method.body, made)?;
     }
     Ok(())
