@@ -10,7 +10,7 @@ use Rattle.class_link.specs.declared.linked.MethodRef.{MethodRef}
 use Rattle.class_link.specs.Symbols.{kind_of, kind_stated, type_stated}
 use Rattle.class_link.specs.View.{bootstrap_of, bootstraps_of, dynamic_ref_of}
 use Rattle.lambda_site.specs.declared.op.Op.{Op}
-use Rattle.lambda_site.specs.declared.site.CallSite as code
+use Rattle.lambda_site.specs.declared.call_site.CallSite as code
 use Rattle.lambda_site.specs.Codes.{op_descriptor, op_code}
 
 abbrev pub site_view : Name → List Kind → Name → Bootstrap → Site

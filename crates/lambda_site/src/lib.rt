@@ -2,20 +2,20 @@
 //! that it makes, as a class of the library.
 #![tactic(auto)]
 
-mod adapter;
 mod call;
+mod call_site;
 mod conversion;
 mod heights;
 mod laws;
+mod library;
 mod name;
 mod op;
-mod site;
 mod sites;
 mod writing;
 
-pub use adapter::adapter;
+pub use call_site::{CallSite, site};
 pub use laws::linked_are_stated;
+pub use library::adapter;
 pub use name::site_name;
 pub use op::{Member, Op};
-pub use site::{CallSite, site};
 pub use sites::put_adapters;

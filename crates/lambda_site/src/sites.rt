@@ -14,9 +14,9 @@ ghost use Rattle.lambda_site.specs.Adapter.{IsStatedBoot};
 ghost use Rattle.lambda_site.specs.Site.{IsStatedKind, site_by};
 ghost use Rattle.lambda_site.specs.Sites.{Adapts, AreStated, AreStatedBoots, dynamic_at, dynamic_index, told};
 
-use crate::adapter::adapter;
+use crate::call_site::site;
+use crate::library::adapter;
 use crate::name::site_name;
-use crate::site::site;
 use class_link::{
     Bootstrap, DynamicRef, Entry, Instruction, LibClass, LinkedBody, LinkedClass, LinkedCode,
 };

@@ -8,9 +8,9 @@ ghost use Rattle.lambda_site.specs.Codes.{op_code};
 ghost use Rattle.lambda_site.specs.Site.{site_view};
 
 use crate::call::{descriptor, field_name};
+use crate::call_site::CallSite;
 use crate::heights::{locals_of, most_words};
 use crate::op::Op;
-use crate::site::CallSite;
 use crate::writing::written;
 use class_link::{LibBody, LibClass, LibField, LibMethod};
 use class_model::names::ascii;
