@@ -33,7 +33,7 @@ behind_same [] ys k le = ap (slice_get ys) (let e : k ≡ k - 0 = omega arith in
 behind_same (x ∷ xs) ys zero le = absurd (omega (arith, le))
 behind_same (x ∷ xs) ys (suc k) le = behind_same xs ys k (omega (arith, le)) ∙ ap (slice_get ys) (let e : k - length xs ≡ suc k - suc (length xs) = omega arith in e)
 
-some_of : {A : Type 0} (P : A → Type 0) (o : Option A) → IsSomeAnd o P → IsSome o
+pub some_of : {A : Type 0} (P : A → Type 0) (o : Option A) → IsSomeAnd o P → IsSome o
 some_of P None h = absurd h
 some_of P (Some x) h = refl
 
@@ -48,7 +48,7 @@ module _ (pool more : List Const) where
   place_case true k c e = absurd cc
   place_case false k c e = front_kept pool more k c e
 
-  entry_kept : (i : ℕ) (c : Const) → entry_of pool i ≡ Some c → entry_of (pool ++ more) i ≡ Some c
+  pub entry_kept : (i : ℕ) (c : Const) → entry_of pool i ≡ Some c → entry_of (pool ++ more) i ≡ Some c
   entry_kept i c e = place_case (i == 0) (i - 1) c e
 
   same_case : (b : Bool) (i : ℕ) → (i == 0) ≡ b → i ≤ length pool → (if b then None else slice_get (pool ++ more) (i - 1)) ≡ (if b then None else slice_get pool (i - 1))
@@ -65,7 +65,7 @@ module _ (pool more : List Const) where
   chain_kept : {B : Type 0} (f : Const → Option B) (i : ℕ) → IsSome (option_and_then f (entry_of pool i)) → option_and_then f (entry_of (pool ++ more) i) ≡ option_and_then f (entry_of pool i)
   chain_kept f i h = chain_case f i (entry_of pool i) refl h
 
-  text_kept : (i : ℕ) → IsSome (text_of pool i) → text_of (pool ++ more) i ≡ text_of pool i
+  pub text_kept : (i : ℕ) → IsSome (text_of pool i) → text_of (pool ++ more) i ≡ text_of pool i
   text_kept i h = chain_kept text_in i h
 
   named_case : {B : Type 0} (f : Const → Option B) (g : B → ℕ) (i : ℕ) (o : Option B) → option_and_then f (entry_of pool i) ≡ o → IsSome (option_and_then (λ b. text_of pool (g b)) o)
@@ -90,7 +90,7 @@ module _ (pool more : List Const) where
   formed_case true k c form e = absurd cc
   formed_case false k c form e = all_at (IsEntry pool) pool k c form.entries e
 
-  formed : (i : ℕ) (c : Const) → IsPoolForm pool → entry_of pool i ≡ Some c → IsEntry pool c
+  pub formed : (i : ℕ) (c : Const) → IsPoolForm pool → entry_of pool i ≡ Some c → IsEntry pool c
   formed i c form e = formed_case (i == 0) (i - 1) c form e
 
   pair_case : (c : Const) → IsEntry pool c → IsSome (option_and_then (λ pair. text_of pool pair.1) (pair_in c)) → IsSome (option_and_then (λ pair. text_of pool pair.0) (pair_in c))
@@ -127,7 +127,7 @@ module _ (pool more : List Const) where
       two (λ a b. IsDynamic (dynamic_ref bootstrap (name_or_empty a) (name_or_empty b))) _ _ _ _ (name_kept pair (pair_named pair form desc)) (desc_kept pair desc)
   symbol_kept const.Second form h = refl
 
-  meaning_case : (i : ℕ) (o : Option Const) → entry_of pool i ≡ o → IsPoolForm pool → symbol_or_other (pool ++ more) o ≡ symbol_or_other pool o
+  pub meaning_case : (i : ℕ) (o : Option Const) → entry_of pool i ≡ o → IsPoolForm pool → symbol_or_other (pool ++ more) o ≡ symbol_or_other pool o
   meaning_case i None e form = refl
   meaning_case i (Some c) e form = symbol_kept c form (formed i c form e)
 

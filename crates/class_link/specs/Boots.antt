@@ -1,6 +1,6 @@
 -- How the code takes the bootstrap methods from their attribute, entry by entry (this project's own).
 -- No public clause cites these.
-use Rattle.std.specs.Prelude.{ℕ, List, ◌++◌, map, Option}
+use Rattle.std.specs.Prelude.{ℕ, ◌+◌, ◌*◌, List, ◌∷◌, ◌++◌, map, Option, Some, None}
 use Rattle.std.specs.Option.{option_map}
 use Rattle.class_model.specs.declared.constant.Const.{Const}
 use Rattle.program_rules.specs.Linked.{Bootstrap}
@@ -20,6 +20,11 @@ boots_in pool n bs = option_map (λ es. map (bootstrap_in pool) es) (entries_in 
 -- Those of a whole attribute.
 abbrev pub table_boots : List Const → List ℕ → List (Option Bootstrap)
 table_boots pool bs = map (bootstrap_in pool) (entries_or_none (table_in bs))
+
+-- The first number of two bytes, and what is behind it.
+abbrev pub number_before : List ℕ → Option (ℕ × List ℕ)
+number_before (a ∷ b ∷ bs) = Some (a * 256 + b, bs)
+number_before bs = None
 
 -- What was read before, in front of what is still read.
 abbrev pub behind_numbers : List ℕ → Option (List ℕ × List ℕ) → Option (List ℕ × List ℕ)

@@ -4,7 +4,7 @@ ghost use Rattle.std.specs.Prelude.{◌≡◌, ◌+◌, ◌*◌, ◌∷◌, [], 
 ghost use Rattle.std.specs.Option.{option_map};
 ghost use Rattle.class_model.specs.declared.attribute.Body.{out-Body};
 ghost use Rattle.class_link.specs.Bootstraps as defs;
-ghost use Rattle.class_link.specs.Boots.{raw_entry, boot_before, boots_in, table_boots};
+ghost use Rattle.class_link.specs.Boots.{raw_entry, number_before, boot_before, boots_in, table_boots};
 ghost use Rattle.class_link.specs.Switches.{AreEntries};
 ghost use Rattle.class_link.specs.View.{meaning_at, method_ref_of, bootstrap_of, bootstraps_of};
 
@@ -22,7 +22,19 @@ fn number_of(high: u8, low: u8) -> u16
     u16::from(high) * 256 + u16::from(low)
 }
 
+/// The first number of two bytes, and what is behind it.
+fn number_before(bytes: &[u8]) -> Option<(u16, &[u8])>
+    ensures { MatchOption result (number_before bytes.now ≡ None)
+        (λ x. number_before bytes.now ≡ Some (x.0, x.1.now)) }
+{
+    match bytes {
+        [high, low, behind @ ..] => Some((number_of(*high, *low), behind)),
+        _ => None,
+    }
+}
+
 /// So many numbers of two bytes, and what is behind them.
+#[tactic(auto, using(crate::proofs::BootLaws::numbers_step, crate::proofs::BootLaws::numbers_end))]
 fn numbers_before(
     alloc: Global,
     count: u16,
@@ -34,10 +46,10 @@ fn numbers_before(
     let mut numbers = Seq::new(alloc);
     let mut rest = bytes;
     for _ in 0..count {
-        let [high, low, behind @ ..] = rest else {
+        let Some((number, behind)) = number_before(rest) else {
             return Ok(None);
         };
-        numbers.push(number_of(*high, *low))?;
+        numbers.push(number)?;
         rest = behind;
     }
     Ok(Some((numbers, rest)))
@@ -176,6 +188,7 @@ fn boot_before<'a>(
 }
 
 /// The bootstrap methods of so many entries, behind which nothing stands.
+#[tactic(auto, using(crate::proofs::BootLaws::boots_step, crate::proofs::BootLaws::boots_end))]
 fn boots_in(
     alloc: Global,
     entries: &[Entry],

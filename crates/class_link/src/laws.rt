@@ -1,6 +1,6 @@
 //! Laws of linking.
 
-ghost use Rattle.class_link.specs.Appended.{AppendedMeanTheSame};
+ghost use Rattle.class_link.specs.Appended.{AppendedKeepBootstraps, AppendedMeanTheSame};
 ghost use Rattle.class_link.specs.Forms.{FormsMeanTheSame};
 ghost use Rattle.class_link.specs.Stated.{LinkedHaveStatedKinds};
 
@@ -15,6 +15,13 @@ pub fn forms_mean_the_same()
 #[tactic(auto, using(crate::proofs::AppendedLaws::appended_mean_the_same))]
 pub fn appended_mean_the_same()
     ensures { AppendedMeanTheSame }
+{}
+
+/// Entries that are appended to a well-formed constant pool, and that no bootstrap method can name,
+/// leave the bootstrap methods of the class as they are.
+#[tactic(auto, using(crate::proofs::KeptBoots::appended_keep_bootstraps))]
+pub fn appended_keep_bootstraps()
+    ensures { AppendedKeepBootstraps }
 {}
 
 /// What is linked has the kinds that its descriptors state: so where a call and a method, or a use

@@ -28,7 +28,9 @@ mod texts;
 pub use frames::{FrameShape, StatedFrame, VType};
 pub use info::{ClassInfo, own_name, text_named};
 pub use instruction::Instruction;
-pub use laws::{appended_mean_the_same, forms_mean_the_same, linked_have_stated_kinds};
+pub use laws::{
+    appended_keep_bootstraps, appended_mean_the_same, forms_mean_the_same, linked_have_stated_kinds,
+};
 pub use line_table::LineTable;
 pub use linked::{
     Bootstrap, DynamicRef, Entry, FieldConstant, FieldRef, LinkedBody, LinkedClass, LinkedCode,

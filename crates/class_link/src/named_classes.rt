@@ -54,6 +54,7 @@ fn class_of(alloc: Global, found: Option<&Entry>) -> Result<Shared<Name>, Memory
         Some(Entry::Text(_)) => no_name(alloc),
         Some(Entry::Field(_)) => no_name(alloc),
         Some(Entry::Method(_)) => no_name(alloc),
+        Some(Entry::Dynamic(_)) => no_name(alloc),
         None => no_name(alloc),
     }
 }

@@ -2,7 +2,7 @@
 
 use crate::small_methods::{Case, PLAIN, agrees, only};
 use class_model::names::ascii;
-use class_model::{ClassId, Seq, SharedBytes};
+use class_model::{Bytes, ClassId, Seq, SharedBytes};
 use class_reader::read_class;
 use class_table::{LibClass, Loaded, Program};
 use mutator_ops::{class_mutants, id_lines, mutants};
@@ -47,6 +47,46 @@ fn mutants_are_listed_by_their_identifiers(rt: HostRuntime) -> Result<(), Fail> 
         let text = id_lines(rt.alloc(), mutants.as_slice())?;
         let wanted = format!(in rt.alloc(); "{jump}{returns}")?;
         assert!(rt; text.as_slice() == wanted.as_bytes(), "{byte} at {place}");
+    }
+    Ok(())
+}
+
+// Where the length of the method's name stands, and the place behind the name.
+const NAME: usize = 41;
+
+const BEHIND_NAME: usize = 43;
+
+// A with this name of its method, whose flags these are.
+fn renamed(alloc: Global, name: &str, flags: [u8; 2]) -> Result<Bytes, Fail> {
+    let mut file = A;
+    let [high, low] = flags;
+    file[METHOD_FLAGS] = high;
+    file[METHOD_FLAGS + 1] = low;
+    let mut bytes = Bytes::from_slice(alloc, &file[..NAME])?;
+    bytes.push(name.len() as u8)?;
+    bytes.extend_from_slice(name.as_bytes())?;
+    bytes.extend_from_slice(&file[BEHIND_NAME..])?;
+    Ok(bytes)
+}
+
+// Names and flags, and whether the method has mutants: one that is synthetic does, where it is a
+// lambda's, and no bridge does.
+const LAMBDAS: [(&str, [u8; 2], bool); 6] = [
+    ("lambda$f$0", [0x10, 0x09], true),
+    ("lambda$", [0x10, 0x09], true),
+    ("lambda", [0x10, 0x09], false),
+    ("lambdas$", [0x10, 0x09], false),
+    ("lambda$f$0", [0x10, 0x49], false),
+    ("lambda$f$0", [0x00, 0x49], false),
+];
+
+#[test]
+fn methods_of_lambdas_have_mutants(rt: HostRuntime) -> Result<(), Fail> {
+    for (name, flags, has) in LAMBDAS {
+        let bytes = renamed(rt.alloc(), name, flags)?;
+        let class = read_class(rt.alloc(), bytes.as_slice())?;
+        let mutants = class_mutants(rt.alloc(), &class)?;
+        assert!(rt; mutants.is_empty() != has, "{name}");
     }
     Ok(())
 }
