@@ -9,7 +9,6 @@ use Rattle.program_rules.specs.Linked.{Linked, parents_of, is_library}
 use Rattle.program_rules.specs.Programs.{Look, concat_over, supers_within, supers}
 use Rattle.program_rules.specs.Tests.{Test, plain_test}
 use Rattle.program_rules.specs.Library.{library_classes, class_among, first_of, with_library}
-use Rattle.program_rules.specs.Sites.{is_site_name}
 use Rattle.program_rules.specs.Adapters.{with_adapters}
 use Rattle.machine_laws.specs.Consulted.{IsWhole}
 use Rattle.machine_laws.specs.Plain.{IsPlain, TestPlain}
