@@ -1,15 +1,14 @@
 -- A program of class files and the library with the adapters of its sites is as the frame law asks.
 use Rattle.std.proofs.Common.{◌≡◌, refl, subst, Bool, true, false, List, [], ◌∷◌, map, Option, Some}
-use Rattle.std.specs.Prelude.{All, if◌then◌else◌}
+use Rattle.std.specs.Prelude.{if◌then◌else◌}
 use Rattle.class_model.specs.declared.class.Class.{Class}
-use Rattle.class_reader.specs.Spells.{IsClass}
 use Rattle.program_rules.specs.Names.{Name, same}
 use Rattle.program_rules.specs.Linked.{Linked}
 use Rattle.program_rules.specs.Library.{class_among}
 use Rattle.class_link.specs.Linking.{link}
 use Rattle.machine_laws.specs.Consulted.{IsLibraryWhole}
 use Rattle.machine_laws.proofs.WithAdapters.{adapted_whole}
-use Rattle.library_laws.specs.Beside.{AreOfFiles, AreApart, named, program_of}
+use Rattle.library_laws.specs.Beside.{AreApart, named, program_of}
 use Rattle.library_laws.specs.Facts.{AdaptedProgramsAreWhole}
 use Rattle.library_laws.proofs.Closed.{whole}
 use Rattle.library_laws.proofs.OfFiles.{are_of_files}

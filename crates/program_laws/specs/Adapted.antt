@@ -1,5 +1,5 @@
 -- A program with the adapters of its sites is linked by descriptors.
-use Rattle.std.specs.Prelude.{◌≡◌, ℕ, true, [], Option, Some, None, slice_get, codes}
+use Rattle.std.specs.Prelude.{◌≡◌, ℕ, true, [], Some, None, slice_get, codes}
 use Rattle.program_rules.specs.Names.{Name, object_name, plain_descriptor}
 use Rattle.program_rules.specs.Kinds.{Kind, OfReference}
 use Rattle.program_rules.specs.Instructions.{Instruction}

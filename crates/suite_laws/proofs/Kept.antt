@@ -9,7 +9,7 @@ use Rattle.program_rules.specs.Names.{Name, same, string_name, class_name}
 use Rattle.program_rules.specs.Deeds.{Meaning, Deed, Gives, Changes, Makes, Boxes, MakesChars, GivesClass, GivesWithin, Throws, NoDeed, Change, with_change, making_name}
 use Rattle.program_rules.specs.declared.making.Making.{Making}
 use Rattle.program_rules.specs.declared.value.Value.{Value}
-use Rattle.program_rules.specs.Instructions.{Instruction, GetStatic, PutStatic, GetField, PutField, InvokeVirtual, InvokeInterface, InvokeSpecial, InvokeStatic, NewMultiArray}
+use Rattle.program_rules.specs.Instructions.{Instruction, GetStatic, PutStatic, GetField, PutField, InvokeVirtual, InvokeInterface, InvokeSpecial, InvokeStatic, InvokeDynamic, NewMultiArray}
 use Rattle.program_rules.specs.Kinds.{Kind, OfChar}
 use Rattle.program_rules.specs.Linked.{Linked, LinkedField, LinkedMethod, LinkedCode, LinkedBody, HasCode, IsNative, NoBody}
 use Rattle.program_rules.specs.Objects.{Object, ObjectKind, Plain, ArrayOf}
@@ -139,6 +139,7 @@ relocated_meant d mv (InvokeStatic r) h = h
 relocated_meant d mv (InvokeSpecial r) h = h
 relocated_meant d mv (InvokeVirtual r) h = h
 relocated_meant d mv (InvokeInterface r) h = h
+relocated_meant d mv (InvokeDynamic r) h = h
 relocated_meant d mv (GetStatic r) h = h
 relocated_meant d mv (PutStatic r) h = h
 relocated_meant d mv (GetField r) h = h
