@@ -6,8 +6,8 @@ use Rattle.program_rules.specs.Names.{Name, same, object_name, class_behind}
 use Rattle.program_rules.specs.Kinds.{Kind, OfBoolean, OfByte, OfChar, OfShort, OfInt, OfLong, OfReference, descriptor_in}
 use Rattle.program_rules.specs.Instructions.{Instruction, CheckCast, New, Dup}
 use Rattle.program_rules.specs.Linked.{Bootstrap}
-use Rattle.program_rules.specs.Sites.{Site, box_name, unboxes, converts_kind, converts_result, words_of_kind, loads_kind, joined, arguments_code, captured_code, is_on_object, taken_kinds, given_kind, is_making, calls_target, starts_code, returns_kind, code_of_parts, code_with, adapter_code, code_or_none, adapter}
-use Rattle.machine_laws.specs.Plain.{IsPlain, ArePlain, named_by, IsOwn, AreOwn, KindPlain, KindsPlain, ResultPlain, BootPlain}
+use Rattle.program_rules.specs.Sites.{Site, box_name, unboxes, converts_kind, converts_result, words_of_kind, loads_kind, joined, arguments_code, captured_code, is_on_object, taken_kinds, given_kind, is_making, calls_target, starts_code, returns_kind, code_of_parts, code_with, adapter_code, code_or_none}
+use Rattle.machine_laws.specs.Plain.{IsPlain, named_by, IsOwn, AreOwn, KindPlain, KindsPlain, ResultPlain, BootPlain}
 use Rattle.machine_laws.proofs.Tested.{plain_own}
 
 all_joined : {X : Type 0} (P : X → Type 0) (xs ys : List X) → AllByRecursion P xs → AllByRecursion P ys → AllByRecursion P (xs ++ ys)

@@ -7,8 +7,7 @@ use Rattle.program_rules.specs.Linked.{Linked, LinkedMethod, LinkedBody, HasCode
 use Rattle.program_rules.specs.Programs.{Look}
 use Rattle.program_rules.specs.Library.{class_among}
 use Rattle.program_rules.specs.Sites.{Site, is_site_name, site_name, site_of, is_dynamic, dynamics_before, adapter}
-use Rattle.program_rules.specs.Adapters.{is_interface_at, adapter_if, adapters_in_code, adapters_in_body, adapters_in_methods, adapters_in_class, owner_told, adapter_told, adapters_by}
-use Rattle.program_rules.specs.Adapted.{IsSite}
+use Rattle.program_rules.specs.Adapters.{is_interface_at, adapter_if, adapters_in_code, adapters_in_body, adapters_in_methods, adapters_in_class, owner_told, adapter_told}
 use Rattle.machine_laws.specs.Sited.{ToldAreOfSites, IsAdapterOf}
 use Rattle.machine_laws.proofs.Sited.{Class, In, among_in, step_case, dynamic_is}
 use Rattle.machine_laws.proofs.Distinct.{in_either}

@@ -3,7 +3,7 @@ use Rattle.std.proofs.Common.{◌≡◌, ◌∙◌, refl, sym, ap, subst, ℕ, z
 use Rattle.std.specs.Prelude.{◌||◌}
 use Rattle.program_rules.specs.Names.{Name, is_listed}
 use Rattle.program_rules.specs.Linked.{Linked, parents_of, is_library}
-use Rattle.program_rules.specs.Programs.{Look, concat_over, supers_within, supers, is_known}
+use Rattle.program_rules.specs.Programs.{Look, concat_over, supers_within, supers}
 use Rattle.program_rules.specs.Library.{first_of}
 use Rattle.program_rules.specs.Sites.{site_prefix, is_site_name}
 use Rattle.program_rules.specs.Adapters.{adapters_by, with_adapters}
@@ -11,7 +11,7 @@ use Rattle.program_rules.specs.Faults.{fault_name}
 use Rattle.program_rules.specs.Deeds.{making_name}
 use Rattle.program_rules.specs.Names.{object_name, string_name, class_name}
 use Rattle.machine_laws.specs.Plain.{IsPlain, ArePlain, NamesNoAdapter}
-use Rattle.machine_laws.specs.Consulted.{IsKnown, Seen, AllSeen, IsLibraryWhole}
+use Rattle.machine_laws.specs.Consulted.{Seen, AllSeen, IsLibraryWhole}
 use Rattle.machine_laws.specs.Sited.{IsOfFiles, AdaptedAreWhole}
 use Rattle.machine_laws.proofs.Known.{plain_seen}
 use Rattle.machine_laws.proofs.Told.{begins_as, prefix_has, tell_none, are_told}
