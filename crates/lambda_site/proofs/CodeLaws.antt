@@ -1,6 +1,6 @@
 -- The code of an adapter means what the rules say of it.
 use Rattle.std.proofs.Common.{◌≡◌, ◌∙◌, sym, refl, ap, ℕ, zero, suc, ◌+◌, ◌-◌, Bool, true, false, List, [], ◌∷◌, ◌++◌, map, length, Option, None, Some, drop, arith, append_assoc}
-use Rattle.std.specs.Prelude.{if◌then◌else◌, nat_eq, codes, ◌||◌, is_some, ⊤, ⊥}
+use Rattle.std.specs.Prelude.{if◌then◌else◌, nat_eq, codes, ◌||◌, is_some, ⊤}
 use Rattle.std.specs.List.{AllByRecursion}
 use Rattle.std.specs.Option.{option_map}
 use Rattle.class_model.specs.declared.kind.Kind.{Kind}

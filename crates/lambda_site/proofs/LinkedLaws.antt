@@ -8,7 +8,7 @@ use Rattle.class_model.specs.declared.constant.Const.{Const}
 use Rattle.class_model.specs.declared.constant.Const.TheVariants as const
 use Rattle.class_model.specs.declared.kind.Kind.{Kind}
 use Rattle.class_model.specs.declared.kind.Kind.TheVariants as kind
-use Rattle.class_model.specs.Pool.{entry_of}
+use Rattle.class_model.specs.Pool.{entry_of, pair_name_of, pair_desc_of}
 use Rattle.program_rules.specs.Kinds as rules
 use Rattle.program_rules.specs.Kinds.{OfBoolean, OfByte, OfChar, OfShort, OfInt, OfLong, OfReference}
 use Rattle.program_rules.specs.Names.{Name}
@@ -21,7 +21,7 @@ use Rattle.class_link.specs.declared.linked.Entry.TheVariants as entry
 use Rattle.class_link.specs.Bootstraps.{RawEntry, is_metafactory, method_of, handle_of, handle_at, type_at, bootstrap_with, bootstrap_by, if_metafactory, bootstrap_in, entries_by, tables_of, bootstraps_in}
 use Rattle.class_link.specs.Bootstraps as raw
 use Rattle.class_link.specs.Switches.{AreEntries}
-use Rattle.class_link.specs.Symbols.{Symbol, IsMethod, IsDynamic, kind_of, type_stated, symbol_or_other, symbol_at}
+use Rattle.class_link.specs.Symbols.{Symbol, IsMethod, IsDynamic, kind_of, type_stated, name_or_empty, dynamic_ref, symbol_or_other, symbol_at}
 use Rattle.class_link.specs.View.{bootstrap_of, bootstraps_of, dynamic_ref_of, entry_symbol}
 use Rattle.class_link.proofs.Resolved.{meaning_same}
 use Rattle.lambda_site.specs.Adapter.{IsStatedBoot}
@@ -31,7 +31,7 @@ use Rattle.lambda_site.proofs.StatedLaws.{args_stated}
 
 -- ---- kinds of class files by those of the rules
 
-back : rules.Kind → Kind
+abbrev back : rules.Kind → Kind
 back OfBoolean = kind.Boolean
 back OfByte = kind.Byte
 back OfChar = kind.Char
@@ -90,7 +90,7 @@ ref_stated pool (Some (const.MethodKind desc)) s e = absurd cc
 ref_stated pool (Some (const.Dynamic bootstrap pair)) s e = absurd cc
 ref_stated pool (Some const.Second) s e = absurd cc
 
-ref_in : MethodRef → Option (ℕ × MethodRef) → MethodRef
+abbrev ref_in : MethodRef → Option (ℕ × MethodRef) → MethodRef
 ref_in r None = r
 ref_in r (Some x) = x.1
 
@@ -177,7 +177,7 @@ dynamic_is r s stated e = let same : r ≡ s = cc in subst IsSiteStated same sta
 
 dynamic_stated : (pool : List Const) (o : Option Const) (s : DynamicRef) → symbol_or_other pool o ≡ IsDynamic s → IsSiteStated s
 dynamic_stated pool None s e = absurd cc
-dynamic_stated pool (Some (const.Dynamic bootstrap pair)) s e = dynamic_is _ s (record { desc = _; args = refl }) e
+dynamic_stated pool (Some (const.Dynamic bootstrap pair)) s e = dynamic_is (dynamic_ref bootstrap (name_or_empty (pair_name_of pool pair)) (name_or_empty (pair_desc_of pool pair))) s (record { desc = name_or_empty (pair_desc_of pool pair); args = refl }) e
 dynamic_stated pool (Some (const.Method class pair)) s e = absurd cc
 dynamic_stated pool (Some (const.IMethod class pair)) s e = absurd cc
 dynamic_stated pool (Some (const.Integer z)) s e = absurd cc

@@ -1,6 +1,6 @@
 -- Whatever a descriptor states, the descriptors of its kinds state these.
 use Rattle.std.proofs.Common.{◌≡◌, ◌∙◌, sym, refl, ap, ℕ, Bool, true, false, List, [], ◌∷◌, ◌++◌, Option, None, Some, subst}
-use Rattle.std.specs.Prelude.{not, ◌&&◌, ◌==◌, if◌then◌else◌, nat_eq, codes, IsTrue, Result, Ok, Err, option_and_then, ⊥}
+use Rattle.std.specs.Prelude.{not, ◌&&◌, ◌==◌, if◌then◌else◌, nat_eq, codes, IsTrue, Result, Ok, Err, option_and_then}
 use Rattle.std.specs.List.{AllByRecursion, list_all, slice_split, onto_first}
 use Rattle.std.specs.Option.{option_map, ok_or}
 use Rattle.std.proofs.lemmas.Bool.{eqb-true}
@@ -29,7 +29,7 @@ and_true false b e = absurd cc
 no_bracket : (part : List ℕ) → is_field_name (91 ∷ part) ≡ true → ⊥
 no_bracket part e =
     let units = (and_true _ _ (and_true _ _ e).1).1 in
-    let first : not (is_reserved 91) ≡ true = (and_true _ _ units).0 in
+    let first : not (is_reserved 91) ≡ true = (and_true (not (is_reserved 91)) (list_all (λ (u : ℕ). not (is_reserved u)) part) units).0 in
     absurd cc
 
 first_part : (parts : List (List ℕ)) → list_all is_field_name (onto_first 91 parts) ≡ true → ⊥
@@ -93,7 +93,7 @@ kinds_are : (ts : List FieldType) (ks : List Kind) → AllByRecursion IsFieldTyp
 kinds_are [] ks form e = let same : [] ≡ ks = cc in subst (AllByRecursion IsStatedKind) same tt
 kinds_are (t ∷ ts) ks form e = head_case t ts (grammar.kind_of t) (grammar.kinds_of ts) ks refl refl e form.0 (λ js f. kinds_are ts js form.1 f)
 
-args_in : Option MethodType → List Kind
+abbrev args_in : Option MethodType → List Kind
 args_in None = []
 args_in (Some t) = t.args
 

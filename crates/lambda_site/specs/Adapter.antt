@@ -23,8 +23,8 @@ pub record IsStatedBoot (b : Bootstrap) : Type 0 where
   pub target : IsStatedCall b.target
 
 -- The same of a site.
-pub record IsStatedSite (captured : List Kind) (b : Bootstrap) : Type 0 where
-  pub captured : AllByRecursion IsStatedKind captured
+pub record IsStatedSite (ks : List Kind) (b : Bootstrap) : Type 0 where
+  pub captured : AllByRecursion IsStatedKind ks
   pub boot : IsStatedBoot b
 
 abbrev pub lib_code : ℕ → ℕ → List Insn → Code

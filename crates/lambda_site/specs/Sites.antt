@@ -49,11 +49,11 @@ AreStatedBoots boots =
     (i : ℕ) (b : Bootstrap) → slice_get boots i ≡ Some (Some b) → IsStatedBoot b
 
 -- And so are those of all sites.
-pub record AreStated (entries : List Entry) (boots : List (Option Bootstrap)) : Type 0 where
+pub record AreStated (es : List Entry) (bs : List (Option Bootstrap)) : Type 0 where
   pub site :
-      (i : ℕ) (r : DynamicRef) → slice_get entries i ≡ Some (entry.Dynamic r) →
+      (i : ℕ) (r : DynamicRef) → slice_get es i ≡ Some (entry.Dynamic r) →
       AllByRecursion IsStatedKind r.args
-  pub boots : AreStatedBoots boots
+  pub boots : AreStatedBoots bs
 
 -- So it is of a class file.
 abbrev pub LinkedAreStated : Type 0

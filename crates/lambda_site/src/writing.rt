@@ -120,6 +120,7 @@ fn put_op(pool: &mut Seq<Const>, op: &Op) -> Result<Insn, Memory>
 }
 
 /// A constant pool and the instructions that mean these in it.
+#[tactic(auto, using(crate::proofs::WrittenLaws::means_one_more))]
 pub fn written(alloc: Global, ops: &[Op]) -> Result<(Seq<Const>, Seq<Insn>), Memory>
     ensures { IfOk result (λ both. Means both.0 both.1 (ops_of ops.now)) }
 {
