@@ -71,23 +71,13 @@ pub fn member_name(alloc: Global, word: &Name, desc: &Name) -> Result<Option<Mem
     Ok(Some(MemberName { class, name, desc }))
 }
 
-/// A long takes two words.
-fn words(kind: &Kind) -> u8
-    ensures { result ≡ words kind.now }
-{
-    match kind {
-        Kind::Long => 2,
-        _ => 1,
-    }
-}
-
 /// The words of the arguments and of a receiver, where a byte holds their number.
 fn call_words(args: &[Kind]) -> Option<u8>
     ensures { result ≡ call_words args.now }
 {
     let mut count = 1u8;
     for kind in args {
-        count = count.checked_add(words(kind))?;
+        count = count.checked_add(kind.words())?;
     }
     Some(count)
 }

@@ -4,29 +4,18 @@ ghost use Rattle.std.specs.Prelude.{◌≡◌, ◌==◌, ◌<◌, length, IfSome
 ghost use Rattle.asm_words.specs.Words.{says, label_in, last_place, last_parted};
 
 use class_model::Name;
+use class_model::names::is_text;
 
 /// What ends a label.
 pub const COLON: u16 = b':' as u16;
 
 const DOT: u16 = b'.' as u16;
 
-fn is_same(units: &[u16], bytes: &[u8]) -> bool
-    ensures { result ≡ says units.now bytes.now }
-{
-    let [unit, units @ ..] = units else {
-        return bytes.is_empty();
-    };
-    let [byte, bytes @ ..] = bytes else {
-        return false;
-    };
-    *unit == u16::from(*byte) && is_same(units, bytes)
-}
-
 /// The word is this text, which is ASCII.
 pub fn says(word: &Name, text: &str) -> bool
     ensures { result ≡ says word.now text.now }
 {
-    is_same(word.as_slice(), text.as_bytes())
+    is_text(word.as_slice(), text.as_bytes())
 }
 
 /// The name of a label in a word that ends with a colon.

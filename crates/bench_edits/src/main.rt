@@ -13,11 +13,11 @@ ghost use Rattle.mutant_apply.specs.Places.{places_of};
 ghost use Rattle.mutant_apply.specs.Fitting.{Fits};
 
 use class_link::{ClassBody, ClassInfo, EditedFile, Loaded, Shared};
-use class_model::{Attr, Bytes, Class, Edit, Memory, Seq, SharedBytes};
+use class_model::{Class, Edit, Memory, Seq, SharedBytes};
 use class_reader::read_class;
 use class_writer::{what_is_spelled_is_written, write_class};
-use mutant_apply::{Parts, Places, apply, mutants_fit, parts_and_bytes, with_code};
-use mutant_runs::entries_add_alone;
+use mutant_apply::{Places, apply, mutants_fit, parts_and_bytes};
+use mutant_runs::{entries_add_alone, with_parts};
 use mutator_ops::{Mutant, class_mutants};
 use std::alloc::Global;
 use std::{env, fs};
@@ -81,41 +81,6 @@ fn made_anew(alloc: Global, class: &Class, edit: &Edit) -> Result<Option<usize>,
     )?;
     let _edited = ClassInfo::new(alloc, ClassBody::File(loaded))?;
     Ok(Some(length))
-}
-
-// The attributes of the edited method.
-fn edited_attrs(
-    alloc: Global,
-    class: &Class,
-    edit: &Edit,
-    parts: &Parts,
-) -> Result<Seq<Attr>, Memory> {
-    match class.methods.get(edit.method as usize) {
-        Some(member) => with_code(&parts.code, &member.attrs),
-        None => Ok(Seq::new(alloc)),
-    }
-}
-
-// The edited class file by its parts; what isn't edited is shared.
-fn with_parts(
-    alloc: Global,
-    loaded: &Shared<Loaded>,
-    edit: &Edit,
-    parts: Parts,
-    bytes: Bytes,
-) -> Result<EditedFile, Memory>
-    ensures { IfOk result (λ file. file.original ≡ loaded.now) }
-{
-    let attrs = edited_attrs(alloc, &loaded.class, edit, &parts)?;
-    let original = loaded.share()?;
-    let bytes = SharedBytes::new(alloc, bytes)?;
-    Ok(EditedFile {
-        original,
-        method: edit.method as usize,
-        attrs,
-        added: parts.added,
-        bytes,
-    })
 }
 
 // The class of an edited class file, of which one method is linked.

@@ -1,6 +1,6 @@
 //! The class file's form of a stated class: indices in place of names.
 
-ghost use Rattle.std.specs.Prelude.{◌≡◌, length, slice_index, All, IfOk};
+ghost use Rattle.std.specs.Prelude.{◌≡◌, length, All, IfOk};
 ghost use Rattle.mt_insn.specs.Code.{HasForm, HasTargets};
 ghost use Rattle.class_asm.specs.File.{near_index, arg_of, insn_of, insns_of, item_of, items_of, shape_of, frames_of, row_of, rows_of, tokens_of, elements_in, note_of, notes_of, starts_of};
 
@@ -9,6 +9,7 @@ use asm_words::{Operand, StatedFrame, StatedInsn, StatedItem, StatedNote, Stated
 use class_model::{
     Arg, Bytes, Frame, Insn, LayoutFault, Memory, Name, Note, Row, Seq, Shape, Token, VItem,
 };
+use mt_attrs::start_of;
 use mt_insn::{places, write_insns};
 
 /// A constant pool that grows, and whether some `ldc` names an entry past its reach, or some code
@@ -109,16 +110,6 @@ fn shape_of(pool: &mut Pool, far: bool, shape: &StatedShape) -> Result<Shape, Me
     }
 }
 
-/// Where an instruction begins.
-fn place_in(starts: &[u32], at: u32) -> u32
-    ensures { result ≡ slice_index starts.now at }
-{
-    match starts.get(at as usize) {
-        Some(start) => *start,
-        None => 0,
-    }
-}
-
 /// The frames, each in its short form where it stands near the one before.
 pub fn frames_of(
     pool: &mut Pool,
@@ -131,7 +122,7 @@ pub fn frames_of(
     let mut frames = Seq::new(pool.allocator());
     let mut next = 0u64;
     for frame in stated {
-        let start = u64::from(place_in(starts, frame.at));
+        let start = u64::from(start_of(starts, frame.at));
         let shape = shape_of(pool, 64 <= start.saturating_sub(next), &frame.shape)?;
         frames.push(Frame {
             at: frame.at,

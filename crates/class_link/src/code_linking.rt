@@ -160,12 +160,20 @@ fn add_all_lines(lines: &mut Vec<LinkedLine>, attrs: &[Attr]) -> Result<(), Memo
     Ok(())
 }
 
-fn link_lines(alloc: Global, attrs: &[Attr], instructions: usize) -> Result<LineTable, Memory>
-    ensures { IfOk result (λ ls. map line_of ls ≡ lines_in attrs.now) }
+/// The rows of all attributes that are LineNumberTables, in the order of the file.
+pub fn line_rows(alloc: Global, attrs: &[Attr]) -> Result<Seq<LinkedLine>, Memory>
+    ensures { IfOk result (λ rows. map line_of rows ≡ lines_in attrs.now) }
 {
     let mut rows = Vec::new(alloc);
     add_all_lines(&mut rows, attrs)?;
-    LineTable::new(alloc, Seq::from_vec(rows), instructions)
+    Ok(Seq::from_vec(rows))
+}
+
+fn link_lines(alloc: Global, attrs: &[Attr], instructions: usize) -> Result<LineTable, Memory>
+    ensures { IfOk result (λ ls. map line_of ls ≡ lines_in attrs.now) }
+{
+    let rows = line_rows(alloc, attrs)?;
+    LineTable::new(alloc, rows, instructions)
 }
 
 // A code in which nothing stands yet.

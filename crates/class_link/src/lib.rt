@@ -24,6 +24,7 @@ mod relinking;
 mod shared;
 mod texts;
 
+pub use code_linking::line_rows;
 pub use frames::{FrameShape, StatedFrame, VType};
 pub use info::{ClassInfo, own_name, text_named};
 pub use instruction::Instruction;
@@ -33,6 +34,7 @@ pub use linked::{
     Entry, FieldConstant, FieldRef, LinkedBody, LinkedClass, LinkedCode, LinkedField, LinkedLine,
     LinkedMethod, LinkedRow, MethodRef, Switch,
 };
+pub use linking::first_code;
 pub use loaded::{ClassBody, EditedFile, LibBody, LibClass, LibField, LibMethod, Loaded};
 pub use long_pool::at_place;
 pub use program_rules::{CallKind, Comparison, Conversion, Element, Operation, ShiftKind};

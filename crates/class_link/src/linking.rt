@@ -32,7 +32,8 @@ fn constant_index(attrs: &[Attr]) -> Option<u16>
     None
 }
 
-fn first_code(attrs: &[Attr]) -> Option<&Code>
+/// The first attribute that is Code.
+pub fn first_code(attrs: &[Attr]) -> Option<&Code>
     ensures { option_copied result ≡ linking.first_of linking.code_within attrs.now }
 {
     for attr in attrs {

@@ -48,23 +48,12 @@ impl<'a> Model for CheckedPool<'a> {
     ghost invariant = { λ p. p.verdicts.items ≡ verdicts_of p.pool.now };
 }
 
-// A long takes two words.
-fn words(kind: &Kind) -> u128
-    ensures value { result ≡ words kind.now }
-    ensures few { result ≤ 2 }
-{
-    match kind {
-        Kind::Long => 2,
-        _ => 1,
-    }
-}
-
 fn words_of(args: &[Kind]) -> u128
     ensures { result ≡ sum_by words args.now }
 {
     let mut sum: u128 = 0;
     for kind in args {
-        sum += words(kind);
+        sum += u128::from(kind.words());
     }
     sum
 }

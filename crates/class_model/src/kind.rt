@@ -1,4 +1,5 @@
-ghost use Rattle.std.specs.Prelude.{◌≡◌, IfOk};
+ghost use Rattle.std.specs.Prelude.{◌≡◌, ◌≤◌, IfOk};
+ghost use Rattle.class_model.specs.TextVerdicts.{words};
 
 use crate::copies::Copied;
 use crate::list::{Name, Seq};
@@ -38,6 +39,17 @@ impl Kind {
             Kind::Int => Ok(Kind::Int),
             Kind::Long => Ok(Kind::Long),
             Kind::Ref(name) => Ok(Kind::Ref(name.copy()?)),
+        }
+    }
+
+    /// How many words a value of the kind takes: a long takes two (JVMS 2.6.1).
+    pub fn words(&self) -> u8
+        ensures value { result ≡ words self.now }
+        ensures few { result ≤ 2 }
+    {
+        match self {
+            Kind::Long => 2,
+            _ => 1,
         }
     }
 }

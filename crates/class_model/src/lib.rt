@@ -45,4 +45,4 @@ pub use memory::Memory;
 pub use mutator::Mutator;
 pub use outcome::{Cause, Outcome};
 pub use shared::SharedBytes;
-pub use text::{read_text, write_text};
+pub use text::{read_text, unit_size, write_text};

@@ -1,6 +1,6 @@
-//! Names, and texts of ASCII characters.
+//! Names, joined and beside texts of ASCII characters.
 
-ghost use Rattle.std.specs.Prelude.{◌≡◌, nat_eq, IfOk};
+ghost use Rattle.std.specs.Prelude.{◌≡◌, ◌++◌, nat_eq, IfOk};
 ghost use Rattle.std.specs.Cmp.Lexicographic.{pointwise};
 
 use crate::list::{Name, Seq};
@@ -35,4 +35,13 @@ pub fn ascii_bytes(alloc: Global, text: &[u8]) -> Result<Name, Memory>
         units.push(*byte as u16)?;
     }
     Ok(Seq::from_vec(units))
+}
+
+/// Two texts written together.
+pub fn joined(alloc: Global, front: &[u16], back: &[u16]) -> Result<Name, Memory>
+    ensures { IfOk result (λ text. text ≡ front.now ++ back.now) }
+{
+    let mut text = Seq::from_slice(alloc, front)?;
+    text.extend_from_slice(back)?;
+    Ok(text)
 }

@@ -1,6 +1,9 @@
 //! How runs of tests end.
 
+ghost use Rattle.std.specs.Prelude.{◌≡◌, IfOk};
+
 use crate::list::Name;
+use crate::memory::Memory;
 
 /// Why a test failed.
 #[derive(Drop)]
@@ -20,4 +23,30 @@ pub enum Outcome {
     TimedOut,
     /// An allocation would have passed the heap's limit.
     MemoryOut,
+}
+
+impl Cause {
+    /// An equal value.
+    pub fn copy(&self) -> Result<Cause, Memory>
+        ensures { IfOk result (λ c. c ≡ self.now) }
+    {
+        match self {
+            Cause::Returned => Ok(Cause::Returned),
+            Cause::Thrown(name) => Ok(Cause::Thrown(name.copy()?)),
+        }
+    }
+}
+
+impl Outcome {
+    /// An equal value.
+    pub fn copy(&self) -> Result<Outcome, Memory>
+        ensures { IfOk result (λ c. c ≡ self.now) }
+    {
+        match self {
+            Outcome::Passed => Ok(Outcome::Passed),
+            Outcome::Failed(cause) => Ok(Outcome::Failed(cause.copy()?)),
+            Outcome::TimedOut => Ok(Outcome::TimedOut),
+            Outcome::MemoryOut => Ok(Outcome::MemoryOut),
+        }
+    }
 }

@@ -1,6 +1,6 @@
 //! Modified UTF-8 (JVMS 4.4.7): how the class file spells names and texts.
 
-ghost use Rattle.std.specs.Prelude.{◌≡◌, ◌≤◌, ◌<◌, ◌++◌, ◌≢◌, List, ℕ, None, Some, Err, IsTrue, IfOk, OnOk, MatchOption, MatchResult};
+ghost use Rattle.std.specs.Prelude.{◌≡◌, ◌≤◌, ◌<◌, ◌++◌, ◌≢◌, List, ℕ, length, None, Some, Err, IsTrue, IfOk, OnOk, MatchOption, MatchResult};
 ghost use Rattle.class_model.specs.Text.{IsUnits, IsFirstBad, text, unit_bytes, unit_of_two, unit_of_three, is_two, is_three, unit_at, units_of};
 ghost use Rattle.class_model.specs.declared.fault.TextFault.TheVariants as text_fault;
 
@@ -85,6 +85,20 @@ pub fn read_text(alloc: Global, bytes: &[u8]) -> Result<Name, TextFault>
         rest = after;
     }
     Ok(name)
+}
+
+/// How many bytes a code unit has.
+pub fn unit_size(unit: u16) -> usize
+    ensures size { result ≡ length (unit_bytes unit) }
+    ensures few { result ≤ 3 }
+{
+    if 0 < unit && unit < 0x80 {
+        1
+    } else if unit < 0x800 {
+        2
+    } else {
+        3
+    }
 }
 
 fn push_unit(out: &mut Bytes, unit: u16) -> Result<(), Memory>

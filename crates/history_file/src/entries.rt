@@ -173,7 +173,8 @@ fn is_place(consulted: &[Entry], last: Option<(u32, u16)>, place: u32) -> bool
     has_class(consulted, place) && is_place_behind(last, place)
 }
 
-fn is_place_behind(last: Option<(u32, u16)>, place: u32) -> bool
+/// Whether a line at this place of a class may stand behind the last one of a run.
+pub fn is_place_behind(last: Option<(u32, u16)>, place: u32) -> bool
     ensures { result ≡ is_place_behind last place }
 {
     match last {
@@ -182,7 +183,8 @@ fn is_place_behind(last: Option<(u32, u16)>, place: u32) -> bool
     }
 }
 
-fn is_line_behind(last: Option<(u32, u16)>, place: u32, line: u16) -> bool
+/// Whether this line at such a place stands behind the last one of a run.
+pub fn is_line_behind(last: Option<(u32, u16)>, place: u32, line: u16) -> bool
     ensures { result ≡ is_line_behind last place line }
 {
     match last {

@@ -23,6 +23,7 @@ mod texts;
 mod write;
 
 pub use end::is_paired;
+pub use entries::{is_line_behind, is_place_behind};
 pub use history::History;
 pub use read::read_history;
 pub use row::{End, Entry, Row};

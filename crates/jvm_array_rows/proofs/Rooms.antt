@@ -5,7 +5,6 @@ use Rattle.std.proofs.Math.Nat.{suc-mul}
 use Rattle.std.proofs.lemmas.Bool.Decides.{leb_tells}
 use Rattle.std.proofs.lemmas.List.{map-append, length-map}
 use Rattle.class_model.specs.declared.kind.Kind.{Kind}
-use Rattle.class_model.specs.declared.kind.Kind.TheVariants as plain_kind
 use Rattle.program_rules.specs.Names.{Name, without_first}
 use Rattle.program_rules.specs.Kinds as kinds
 use Rattle.program_rules.specs.Kinds.{component_kind}
@@ -21,16 +20,8 @@ use Rattle.jvm_values.specs.Contents as heaps
 use Rattle.jvm_values.specs.Contents.{Contents, next_number}
 use Rattle.jvm_values.specs.Words as words
 use Rattle.jvm_world.specs.View.{object_of, objects_of}
+use Rattle.jvm_world.proofs.Defaults.{default_same}
 use Rattle.jvm_array_rows.specs.Built.{words_for, plain_of, component_of, with_array, parts, array_with, filled, built}
-
-default_same : (k : Kind) → words.default_of k ≡ kinds.default_of (kind_of k)
-default_same plain_kind.Boolean = refl
-default_same plain_kind.Byte = refl
-default_same plain_kind.Char = refl
-default_same plain_kind.Short = refl
-default_same plain_kind.Int = refl
-default_same plain_kind.Long = refl
-default_same (plain_kind.Ref n) = refl
 
 map_set : (p : List Info) (os : List Object) (n : ℕ) (o : Object) → map (object_of p) (slice_set os n o) ≡ slice_set (map (object_of p) os) n (object_of p o)
 map_set p [] n o = refl

@@ -3,8 +3,9 @@ use Rattle.std.proofs.Common.{◌≡◌, ◌∙◌, sym, refl, ap, subst, ℕ, �
 use Rattle.std.specs.Prelude.{if◌then◌else◌}
 use Rattle.std.specs.Option.{option_map}
 use Rattle.std.proofs.lemmas.Option.{slice_get-map, slice_get_within}
-use Rattle.program_rules.specs.Linked.{LinkedMethod, is_abstract, method_in}
-use Rattle.program_rules.specs.Outlines.{Abstractly, callable_of}
+use Rattle.program_rules.specs.Linked.{Linked, LinkedMethod, is_abstract, method_in}
+use Rattle.program_rules.specs.Outlines as outlines
+use Rattle.program_rules.specs.Outlines.{Abstractly, callable_of, head_of, heads_in, outline_of}
 use Rattle.class_link.specs.declared.linked.LinkedClass.{LinkedClass}
 use Rattle.class_link.specs.View.{linked_of, method_of, body_of}
 use Rattle.library_rules.specs.declared.native.Native.{Native}
@@ -15,6 +16,7 @@ use Rattle.class_link.specs.declared.linked.Entry.{Entry}
 use Rattle.class_link.specs.declared.linked.LinkedMethod as linked
 use Rattle.class_table.specs.Table.{look, name_at}
 use Rattle.jvm_link.specs.declared.site.Site.{Site}
+use Rattle.jvm_link.specs.Sites.{HasHead}
 use Rattle.jvm_invokes.specs.declared.heads.Head.{Head}
 use Rattle.jvm_invokes.specs.declared.heads.Body.TheVariants as body
 use Rattle.jvm_invokes.specs.Heads.{IsBody, IsHead, StandsAt}
@@ -59,8 +61,9 @@ pub body_none : (es : List Entry) (o : Option linked.LinkedMethod) (m : LinkedMe
 body_none es o m b is e =
     let bad : None ≡ Some m = sym (ap (option_map (method_of es)) is) ∙ e in absurd cc
 
-pub flags_at_place : (p : List Info) (s : Site) (i : Info) (flags : ℕ) (ms : List linked.LinkedMethod) → ms ≡ i.linked.methods → look p (name_at p s.class.0) ≡ Some (class_of i) → ((es : List Entry) (m : LinkedMethod) → option_map (method_of es) (slice_get ms s.place) ≡ Some m → flags ≡ m.flags) → (m : LinkedMethod) → StandsAt p s m → flags ≡ m.flags
-flags_at_place p s i flags ms same class are m there =
-    are i.linked.entries m
-    (ap (λ xs. option_map (method_of i.linked.entries) (slice_get xs s.place)) same
-    ∙ at_place p s.class.0 s.place i.linked m class there)
+head_stands : (o : Option Linked) (place : ℕ) (m : LinkedMethod) → method_in o place ≡ Some m → slice_get (heads_in (outline_of o)) place ≡ Some (head_of m)
+head_stands None place m e = absurd cc
+head_stands (Some c) place m e = slice_get-map head_of c.methods place ∙ ap (option_map head_of) e
+
+pub flags_at_place : (p : List Info) (s : Site) (flags : ℕ) → ((h : outlines.Head) → HasHead p s.class.0 s.place h → flags ≡ h.flags) → (m : LinkedMethod) → StandsAt p s m → flags ≡ m.flags
+flags_at_place p s flags are m there = are (head_of m) (head_stands (look p (name_at p s.class.0)) s.place m there)

@@ -103,17 +103,6 @@ pub fn head_at(p: &Program, site: Site) -> Head
     head_in(methods, site.place)
 }
 
-#[inline(always)]
-fn flags_in(methods: &[LinkedMethod], place: usize) -> u16
-    ensures { (es : List Entry) (m : Method) →
-        option_map (method_of es) (slice_get methods.now place) ≡ Some m → result ≡ m.flags }
-{
-    match methods.get(place) {
-        Some(method) => method.flags,
-        None => 0,
-    }
-}
-
 /// The flags of the method that stands here.
 #[tactic(auto, using(crate::proofs::Bodies::flags_at_place))]
 #[inline(always)]
@@ -121,8 +110,5 @@ pub fn flags_at(p: &Program, site: Site) -> u16
     requires { site.class.0 < length p.now }
     ensures { (m : Method) → StandsAt p.now site m → result ≡ m.flags }
 {
-    let info = p.info(site.class);
-    let linked = info.linked();
-    let methods = linked.methods.as_slice();
-    flags_in(methods, site.place)
+    jvm_link::flags_at(p, site.class, site.place)
 }

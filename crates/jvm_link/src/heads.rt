@@ -26,6 +26,7 @@ pub fn is_interface(program: &Program, id: ClassId) -> bool
     has_interface_flag(program.info(id))
 }
 
+#[inline(always)]
 fn flags_in(methods: &[LinkedMethod], place: usize) -> u16
     ensures { (m : LinkedMethod) → slice_get methods.now place ≡ Some m → result ≡ m.flags }
 {
@@ -35,6 +36,7 @@ fn flags_in(methods: &[LinkedMethod], place: usize) -> u16
     }
 }
 
+#[inline(always)]
 fn flags_of(info: &ClassInfo, place: usize) -> u16
     ensures { (m : LinkedMethod) → StandsAt info.now.linked place m → result ≡ m.flags }
 {
@@ -42,6 +44,7 @@ fn flags_of(info: &ClassInfo, place: usize) -> u16
 }
 
 /// The flags of a method.
+#[inline(always)]
 pub fn flags_at(program: &Program, id: ClassId, place: usize) -> u16
     requires { id.0 < length program.now }
     ensures { (h : Head) → HasHead program.now id.0 place h → result ≡ h.flags }

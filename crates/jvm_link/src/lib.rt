@@ -25,6 +25,7 @@ mod text;
 pub use classes::resolve_class;
 pub use entries::entry;
 pub use fields::resolve_field;
+pub use heads::flags_at;
 pub use held::{Held, held_at, hold};
 pub use interfaces::{Choice, Search, Specific};
 pub use methods::{declared_method, first_declared, own_method};

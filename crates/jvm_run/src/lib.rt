@@ -15,5 +15,6 @@ pub use ending::{End, Ending};
 pub use jvm_step::{
     CatchRow, Effect, Machine, Need, Step, Tables, find_handler, need_for, step, store_reference,
 };
+pub use places::method_text;
 pub use result::RunResult;
 pub use running::{execute, execute_to_end};

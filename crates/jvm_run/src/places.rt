@@ -13,6 +13,7 @@ ghost use Rattle.jvm_run.specs.Ending.{ending_in};
 ghost use Rattle.jvm_step.specs.Machines.{IsMachineOf, StandsFor};
 
 use crate::ending::Ending;
+use class_model::names::joined;
 use class_model::{ClassId, Memory, Name, Seq};
 use class_table::{Call, Program};
 use jvm_frames::Place;
@@ -23,23 +24,14 @@ use std::alloc::Global;
 /// `()V`
 const PLAIN: [u16; 3] = [40, 41, 86];
 
-// Two names written together.
-fn joined(first: &Name, second: &[u16]) -> Result<Name, Memory>
-    ensures { IfOk result (λ name. name ≡ first.now ++ second.now) }
-{
-    let mut both = first.copy()?;
-    both.extend_from_slice(second)?;
-    Ok(both)
-}
-
-// The name and the descriptor of a method.
-fn method_text(alloc: Global, p: &Program, class: ClassId, method: u32) -> Result<Name, Memory>
+/// The name and the descriptor of a method.
+pub fn method_text(alloc: Global, p: &Program, class: ClassId, method: u32) -> Result<Name, Memory>
     requires { class.0 < length p.now }
     ensures { IfOk result (λ name.
         name ≡ method_text (method_in (look p.now (name_at p.now class.0)) method)) }
 {
     match p.method(class, method) {
-        Some(method) => joined(&method.name, method.desc.as_slice()),
+        Some(method) => joined(alloc, method.name.as_slice(), method.desc.as_slice()),
         None => Ok(Seq::new(alloc)),
     }
 }
@@ -60,14 +52,14 @@ fn frame_place(alloc: Global, p: &Program, place: Place) -> Result<Ending, Memor
 }
 
 // The place of a call of the script.
-fn named_place(call: &Call) -> Result<Ending, Memory>
+fn named_place(alloc: Global, call: &Call) -> Result<Ending, Memory>
     ensures { IfOk result (λ e. e ≡ ending_in (StuckAt (record {
       class = call.now.class;
       method = call.now.method ++ plain_descriptor;
       at = 0;
     }))) }
 {
-    let method = joined(&call.method, PLAIN.as_slice())?;
+    let method = joined(alloc, call.method.as_slice(), PLAIN.as_slice())?;
     let class = call.class.copy()?;
     Ok(Ending::Stuck {
         class,
@@ -83,7 +75,7 @@ fn call_place(alloc: Global, script: &Script) -> Result<Ending, Memory>
 {
     match script.next() {
         Some(call) => {
-            let ending = named_place(call)?;
+            let ending = named_place(alloc, call)?;
             Ok(ending)
         }
         None => Ok(Ending::Stuck {

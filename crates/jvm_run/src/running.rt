@@ -34,16 +34,6 @@ enum RunEnd {
     Stuck,
 }
 
-// Counts so many steps.
-fn tick_all(part: &mut MeterPart, steps: u64)
-    requires { part.old + steps < 2 ^ 64 }
-    ensures { part.new ≡ part.old + steps }
-{
-    for _ in 0..steps {
-        part.tick();
-    }
-}
-
 // Runs a machine that stands at the start of a test, for so many steps at most.
 #[tactic(auto, using(crate::proofs::Ran::at_limit_is, crate::proofs::Ran::least))]
 fn run(
@@ -75,12 +65,12 @@ fn run(
         let went = advance(m, alloc, p, tables, marks, limit - done)?;
         match went {
             Went::Steps(n) => {
-                tick_all(part, n);
+                part.tick_all(n);
                 done += n;
             }
             Went::Ended(end) => return Ok((RunEnd::At(Some(end)), done)),
             Went::Stuck(n) => {
-                tick_all(part, n);
+                part.tick_all(n);
                 return Ok((RunEnd::Stuck, done + n));
             }
         }

@@ -7,6 +7,7 @@ mod heap;
 mod kept;
 mod object;
 
+pub use defaults::default_value;
 pub use fault::HeapFault;
 pub use heap::Heap;
 pub use kept::{Kept, KeptBox};

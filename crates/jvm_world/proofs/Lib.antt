@@ -3,3 +3,4 @@ mod Rests
 mod Worlds
 pub mod Slots
 mod Lengths
+pub mod Defaults

@@ -8,12 +8,9 @@ use class_model::Kind;
 use program_rules::Value;
 
 /// What a field or an element of a kind holds at first (JVMS 2.3, 2.4).
+#[tactic(auto, using(crate::proofs::Defaults::default_same))]
 pub fn default_value(kind: &Kind) -> Value
     ensures { result ≡ default_of (kind_of kind.now) }
 {
-    match kind {
-        Kind::Long => Value::Long(0),
-        Kind::Ref(_) => Value::Null,
-        Kind::Boolean | Kind::Byte | Kind::Char | Kind::Short | Kind::Int => Value::Int(0),
-    }
+    jvm_values::default_value(kind)
 }

@@ -8,6 +8,7 @@ ghost use Rattle.library_rules.specs.Texts as def;
 ghost use Rattle.lib_core.specs.Answers.{Answers};
 ghost use Rattle.lib_core.specs.View.{deed_of};
 
+use class_model::names::joined;
 use class_model::{Memory, Name, Seq};
 use jvm_values::Object;
 use lib_core::{
@@ -16,14 +17,6 @@ use lib_core::{
 };
 use program_rules::{Fault, Value};
 use std::alloc::Global;
-
-fn joined(alloc: Global, front: &[u16], back: &[u16]) -> Result<Name, Memory>
-    ensures { IfOk result (λ units. units ≡ front.now ++ back.now) }
-{
-    let mut units = Seq::from_slice(alloc, front)?;
-    units.extend_from_slice(back)?;
-    Ok(units)
-}
 
 /// `concat(String)`
 pub fn concat(alloc: Global, objects: &[Object], args: &[Value]) -> Result<Deed, Memory>

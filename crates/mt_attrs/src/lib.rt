@@ -47,6 +47,7 @@ mod write_tables;
 
 use attributes::read_whole;
 pub use owner::Owner;
+pub use place::start_of;
 use write::write_all;
 
 /// The attributes of an owner, from their count on. The cursor has all that is left of the file.

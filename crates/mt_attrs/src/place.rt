@@ -94,6 +94,16 @@ pub fn read_end(
     }
 }
 
+/// The place of an instruction; 0 where it is none.
+pub fn start_of(starts: &[u32], number: u32) -> u32
+    ensures { result ≡ start_of starts.now number }
+{
+    match starts.get(number as usize) {
+        Some(start) => *start,
+        None => 0,
+    }
+}
+
 /// One behind the place of an instruction.
 pub fn behind_start(starts: &[u32], number: u32) -> u32
     requires { AreNear starts.now }

@@ -74,4 +74,12 @@ impl MeterPart {
     {
         self.count += 1;
     }
+
+    /// Counts so many steps.
+    pub fn tick_all(&mut self, steps: u64)
+        requires { self.old + steps < 2 ^ 64 }
+        ensures { self.new ≡ self.old + steps }
+    {
+        self.count += steps;
+    }
 }

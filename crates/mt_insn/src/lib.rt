@@ -40,6 +40,7 @@ mod whole;
 mod words;
 mod write;
 
+pub use opcode::{Form, form_of};
 use size::places_of;
 use whole::read_code;
 use write::write_code;

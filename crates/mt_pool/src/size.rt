@@ -6,21 +6,7 @@ ghost use Rattle.class_model.specs.Text.{text, unit_bytes};
 ghost use Rattle.mt_pool.specs.Spelling.{entry_bytes};
 ghost use Rattle.mt_pool.specs.Whole.{has_text_size};
 
-use class_model::Const;
-
-/// How many bytes a code unit has.
-fn unit_size(unit: u16) -> u128
-    ensures size { result ≡ length (unit_bytes unit) }
-    ensures few { result ≤ 3 }
-{
-    if 0 < unit && unit < 0x80 {
-        1
-    } else if unit < 0x800 {
-        2
-    } else {
-        3
-    }
-}
+use class_model::{Const, unit_size};
 
 /// How many bytes a text has.
 fn text_size(units: &[u16]) -> u128
@@ -28,7 +14,7 @@ fn text_size(units: &[u16]) -> u128
 {
     let mut size = 0;
     for unit in units {
-        size += unit_size(*unit);
+        size += unit_size(*unit) as u128;
     }
     size
 }

@@ -1,13 +1,13 @@
 //! The attributes inside Code that an edit keeps: LineNumberTable and StackMapTable.
 
-ghost use Rattle.std.specs.Prelude.{◌≡◌, map, slice_index, All, IfOk};
+ghost use Rattle.std.specs.Prelude.{◌≡◌, map, All, IfOk};
 ghost use Rattle.mt_attrs.specs.CodeParts.{body_of};
-ghost use Rattle.mt_attrs.specs.Places.{start_of};
 ghost use Rattle.mutant_apply.specs.Moved.{moved_place, moved_line, moved_item, with_items_moved, long_enough, moved_frames, moved_tables};
 ghost use Rattle.mutant_apply.specs.Room.{IsNearLine, IsNearItem, IsNearShape, IsNearFrame, IsNearTable};
 
 use crate::place_map::PlaceMap;
 use class_model::{Attr, Body, Frame, Memory, Seq, Shape, VItem};
+use mt_attrs::start_of;
 
 fn moved_lines(by: PlaceMap, lines: &Seq<(u32, u16)>) -> Result<Seq<(u32, u16)>, Memory>
     requires { All IsNearLine lines.now }
@@ -71,16 +71,6 @@ pub fn long_enough(delta: u64, shape: Shape) -> Shape
         Shape::Same(far) => Shape::Same(far || delta > 63),
         Shape::One(far, item) => Shape::One(far || delta > 63, item),
         other => other,
-    }
-}
-
-// Where an instruction begins, 0 behind the last one.
-fn start_of(starts: &[u32], at: u32) -> u32
-    ensures { result ≡ start_of starts.now at }
-{
-    match starts.get(at as usize) {
-        Some(start) => *start,
-        None => 0,
     }
 }
 

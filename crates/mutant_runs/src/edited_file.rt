@@ -27,8 +27,9 @@ fn edited_attrs(
     }
 }
 
-// The class file with these parts and bytes; what isn't edited is shared.
-fn with_parts(
+/// The class file with the parts that an edit makes anew, and the bytes of the whole; what isn't
+/// edited is shared.
+pub fn with_parts(
     alloc: Global,
     loaded: &Shared<Loaded>,
     edit: &Edit,

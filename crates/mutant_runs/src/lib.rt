@@ -21,6 +21,7 @@ pub use accepted_edits::{
 pub use all::{verdicts, viable};
 pub use class_bytes::ClassBytes;
 pub use covered::covering_tests;
+pub use edited_file::with_parts;
 pub use laws::{
     edited_are_ready, edits_are_judged_by_their_method, edits_make, entries_add_alone,
     files_are_found, mutants_are_of, ready_may_run,

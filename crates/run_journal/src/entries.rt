@@ -4,12 +4,12 @@ ghost use Rattle.std.specs.Prelude.{◌≡◌, ◌≤◌, ◌∷◌, ℕ, List, 
 ghost use Rattle.program_rules.specs.Names.{Name};
 ghost use Rattle.history_rules.specs.Items.{ReadsFile, u4_at, where_at, text_where, many_by};
 ghost use Rattle.history_rules.specs.Classes.{class_of};
-ghost use Rattle.history_rules.specs.Entries.{is_new, is_number, entry_at, with_entry, is_place, is_place_behind, is_present, is_line_behind, pair_at, with_pair};
+ghost use Rattle.history_rules.specs.Entries.{is_new, is_number, entry_at, with_entry, is_place, is_present, pair_at, with_pair};
 ghost use Rattle.history_rules.specs.Reading.{entries_at, pairs_at};
 ghost use Rattle.run_journal.specs.Seen.{HasTexts, used_all};
 
 use class_model::{Memory, Name, Seq, SharedBytes};
-use history_file::{Slices, decode};
+use history_file::{Slices, decode, is_line_behind, is_place_behind};
 use history_rules::HistoryFault;
 use mt_bytes::Cursor;
 use std::alloc::Global;
@@ -133,28 +133,10 @@ fn is_present(entries: &[(Name, Option<SharedBytes>)], place: u32) -> bool
     }
 }
 
-fn is_place_behind(last: Option<(u32, u16)>, place: u32) -> bool
-    ensures { result ≡ is_place_behind last place }
-{
-    match last {
-        Some(last) => last.0 <= place,
-        None => true,
-    }
-}
-
 fn is_place(entries: &[(Name, Option<SharedBytes>)], last: Option<(u32, u16)>, place: u32) -> bool
     ensures { result ≡ is_place entries.now last place }
 {
     is_present(entries, place) && is_place_behind(last, place)
-}
-
-fn is_line_behind(last: Option<(u32, u16)>, place: u32, line: u16) -> bool
-    ensures { result ≡ is_line_behind last place line }
-{
-    match last {
-        Some(last) => last.0 < place || last.1 < line,
-        None => true,
-    }
 }
 
 #[tactic(auto, unfolding(history_rules::specs::Entries::pair_at))]

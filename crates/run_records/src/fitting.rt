@@ -8,7 +8,7 @@ ghost use Rattle.history_rules.specs.Fitting.{FitsEntry, FitsFields, FitsPair};
 ghost use Rattle.history_rules.specs.Laws.{HasShortClass};
 ghost use Rattle.history_rules.specs.Spelling.{IsOutcome, IsToldCause};
 
-use class_model::{Cause, Name, Outcome, Seq, SharedBytes};
+use class_model::{Cause, Name, Outcome, Seq, SharedBytes, unit_size};
 use record_rules::RunRecord;
 
 // ---- texts
@@ -16,27 +16,13 @@ use record_rules::RunRecord;
 // The most units that surely fit: each takes three bytes at most.
 const SURE: usize = 21_845;
 
-// The bytes of a unit in modified UTF-8 (JVMS 4.4.7).
-fn unit_len(unit: u16) -> usize
-    ensures length { result ≡ length (unit_bytes unit) }
-    ensures most { result ≤ 3 }
-{
-    if 0 < unit && unit < 0x80 {
-        1
-    } else if unit < 0x800 {
-        2
-    } else {
-        3
-    }
-}
-
 // Whether units take fewer than 2^16 bytes.
 fn is_short(units: &[u16]) -> bool
     ensures { IsTrue result ↔ (length (text units.now) < 2 ^ 16) }
 {
     let mut len = 0;
     for unit in units {
-        len += unit_len(*unit);
+        len += unit_size(*unit);
         if len > 0xFFFF {
             return false;
         }

@@ -11,32 +11,12 @@ ghost use Rattle.suite_program.specs.Building.{found_fault, first_in, TellsFirst
 ghost use Rattle.type_rules.specs.Rules.{Accepted};
 
 use crate::fault::{ProgramEnd, ProgramFault};
-use class_model::{ClassId, Memory, Name, Seq};
+use class_model::Memory;
 use class_table::Program;
+use jvm_run::method_text;
 use std::alloc::Global;
 use type_laws::first_faults_are_found;
 use type_verifier::{VerifyEnd, VerifyFault, verify};
-
-// Two names written together.
-fn joined(first: &Name, second: &Name) -> Result<Name, Memory>
-    ensures { IfOk result (λ name. name ≡ first.now ++ second.now) }
-{
-    let mut both = first.copy()?;
-    both.extend_from_slice(second.as_slice())?;
-    Ok(both)
-}
-
-// The name and the descriptor of a method.
-fn method_text(alloc: Global, p: &Program, class: ClassId, method: u32) -> Result<Name, Memory>
-    requires { class.0 < length p.now }
-    ensures { IfOk result (λ name.
-        name ≡ method_text (method_in (look p.now (name_at p.now class.0)) method)) }
-{
-    match p.method(class, method) {
-        Some(method) => joined(&method.name, &method.desc),
-        None => Ok(Seq::new(alloc)),
-    }
-}
 
 // The fault of code that the verifier has found.
 fn found_fault(alloc: Global, p: &Program, fault: VerifyFault) -> Result<ProgramFault, Memory>

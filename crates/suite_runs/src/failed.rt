@@ -5,7 +5,7 @@ ghost use Rattle.suite_workers.specs.Said.{known_record};
 ghost use Rattle.job_answers.specs.Answers.{unless_failed, unless_passed};
 ghost use Rattle.suite_runs.specs.Failing.{failed_among, is_passed, outcome_by};
 
-use class_model::{Cause, Memory, Outcome, Seq};
+use class_model::{Memory, Outcome, Seq};
 use job_answers::{FailedTest, JobRefusal};
 use mutator_ops::State;
 use std::alloc::Global;
@@ -24,39 +24,13 @@ fn outcome_by(state: Option<State>) -> Outcome
     }
 }
 
-fn copied(outcome: &Outcome) -> Result<Outcome, Memory>
-    ensures { IfOk result (λ copy. copy ≡ outcome.now) }
-{
-    match outcome {
-        Outcome::Passed => Ok(Outcome::Passed),
-        Outcome::Failed(cause) => {
-            let cause = copied_cause(cause)?;
-            Ok(Outcome::Failed(cause))
-        }
-        Outcome::TimedOut => Ok(Outcome::TimedOut),
-        Outcome::MemoryOut => Ok(Outcome::MemoryOut),
-    }
-}
-
-fn copied_cause(cause: &Cause) -> Result<Cause, Memory>
-    ensures { IfOk result (λ copy. copy ≡ cause.now) }
-{
-    match cause {
-        Cause::Returned => Ok(Cause::Returned),
-        Cause::Thrown(name) => {
-            let name = name.copy()?;
-            Ok(Cause::Thrown(name))
-        }
-    }
-}
-
 // How a run ended, as it is known.
 #[tactic(auto, using(crate::proofs::FailedOnes::outcome_said))]
 fn outcome_of(alloc: Global, run: &KnownRun) -> Result<Outcome, Memory>
     ensures { IfOk result (λ outcome. outcome ≡ (known_record run.now).outcome) }
 {
     match run {
-        KnownRun::Made(made) => copied(&made.outcome),
+        KnownRun::Made(made) => made.outcome.copy(),
         KnownRun::Found(found) => {
             let state = found.state(alloc)?;
             Ok(outcome_by(state))

@@ -5,7 +5,7 @@ ghost use Rattle.suite_jobs.specs.Below.{detected_by};
 ghost use Rattle.suite_workers.specs.Saying.{AddsNext, SaysAll, SaysOne, known_end, open_with, state_end, told_with};
 
 use crate::old_records::FoundRun;
-use class_model::{Cause, Memory, Outcome, Seq};
+use class_model::{Memory, Outcome, Seq};
 use mutator_ops::State;
 use record_rules::RunRecord;
 use std::alloc::Global;
@@ -37,23 +37,11 @@ fn detected_by(outcome: &Outcome) -> Result<Option<State>, Memory>
     match outcome {
         Outcome::Passed => Ok(None),
         Outcome::Failed(cause) => {
-            let cause = copied(cause)?;
+            let cause = cause.copy()?;
             Ok(Some(State::Killed(cause)))
         }
         Outcome::TimedOut => Ok(Some(State::TimedOut)),
         Outcome::MemoryOut => Ok(Some(State::MemoryError)),
-    }
-}
-
-fn copied(cause: &Cause) -> Result<Cause, Memory>
-    ensures { IfOk result (λ copy. copy ≡ cause.now) }
-{
-    match cause {
-        Cause::Returned => Ok(Cause::Returned),
-        Cause::Thrown(name) => {
-            let name = name.copy()?;
-            Ok(Cause::Thrown(name))
-        }
     }
 }
 

@@ -10,6 +10,7 @@ ghost use Rattle.test_discovery.specs.Searching.{behind, names_one_of};
 
 use crate::expected::expected_of;
 use crate::marks::Marks;
+use class_model::names::is_text;
 use class_model::{Attr, Body, Const, Memory, Note};
 use mt_pool::text_of;
 use std::alloc::Global;
@@ -37,22 +38,6 @@ const RUNNERS: [&'static str; 6] = [
     "Lorg/junit/jupiter/api/Nested;",
     "Lorg/junit/Rule;",
 ];
-
-// Whether a name is a text of ASCII characters.
-fn is_text(name: &[u16], text: &[u8]) -> bool
-    ensures { result ≡ same name.now text.now }
-{
-    let mut units = name;
-    let mut bytes = text;
-    while let ([unit, more_units @ ..], [byte, more_bytes @ ..]) = (units, bytes) {
-        if *unit != u16::from(*byte) {
-            return false;
-        }
-        units = more_units;
-        bytes = more_bytes;
-    }
-    units.is_empty() && bytes.is_empty()
-}
 
 /// The index names this text of ASCII characters.
 pub fn names_text(pool: &[Const], index: u16, text: &str) -> bool

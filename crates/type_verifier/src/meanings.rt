@@ -14,6 +14,7 @@ use crate::names::Names;
 use crate::own::{Own, initialises_this, is_near};
 use crate::pool_texts::TextIndices;
 use crate::types::{kind_type, kind_types};
+use class_link::names::is_array_name;
 use class_link::{FieldRef, LinkedField, MethodRef, Shared};
 use class_model::{Kind, Memory, Name, Seq};
 use class_table::Program;
@@ -63,22 +64,13 @@ impl MethodUse {
     }
 }
 
-fn is_array(name: &[u16]) -> bool
-    ensures { result ≡ is_array_name name.now }
-{
-    match name {
-        [unit, ..] => *unit == b'[' as u16,
-        [] => false,
-    }
-}
-
 // The name of the array of this component.
 fn array_name(alloc: Global, name: &Name) -> Result<Name, Memory>
     ensures { IfOk result (λ n. n ≡ array_of name.now) }
 {
     let mut text = Seq::new(alloc);
     text.push(b'[' as u16)?;
-    if is_array(name.as_slice()) {
+    if is_array_name(name.as_slice()) {
         text.extend_from_slice(name.as_slice())?;
         return Ok(text);
     }

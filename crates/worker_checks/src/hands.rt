@@ -24,16 +24,6 @@ fn record_at(rows: &[Row], mutant: u64, test: u64) -> Option<RowRecord>
     }
 }
 
-/// Counts so many steps.
-pub fn count(part: &mut MeterPart, steps: u32)
-    requires { part.old < 2 ^ 63 }
-    ensures { part.new ≡ part.old + steps }
-{
-    for _ in 0..steps {
-        part.tick();
-    }
-}
-
 impl Hands for RowHands {
     type Made = RowRecord;
 
@@ -70,7 +60,7 @@ impl Hands for RowHands {
         match made {
             None => Err(Memory),
             Some(made) => {
-                count(part, made.steps);
+                part.tick_all(u64::from(made.steps));
                 Ok(made)
             }
         }

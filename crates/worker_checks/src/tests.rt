@@ -4,7 +4,6 @@
 ghost use Rattle.std.specs.Prelude.{◌≡◌};
 
 use crate::gates::HeldGate;
-use crate::hands::count;
 use crate::jobs::{RowEnds, do_rows};
 use mt_edge::{Meter, OpenGate};
 use std::test::Fail;
@@ -30,7 +29,7 @@ fn metered() -> Meter
 {
     let mut meter = Meter::new();
     let mut part = meter.split();
-    count(&mut part, ORIGINAL);
+    part.tick_all(u64::from(ORIGINAL));
     meter.join(part);
     meter
 }
