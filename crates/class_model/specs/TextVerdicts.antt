@@ -9,7 +9,7 @@ use Rattle.class_model.specs.declared.kind.Kind.{Kind}
 use Rattle.class_model.specs.declared.kind.Kind.TheVariants as kind
 use Rattle.class_model.specs.declared.kind.MethodType.{MethodType}
 use Rattle.class_model.specs.declared.fault.DescFault.{DescFault}
-use Rattle.class_model.specs.declared.checked_pool.Verdict.{Verdict}
+use Rattle.class_model.specs.declared.checked_pool.TextVerdict.{TextVerdict}
 
 -- whether it was read, or why not
 abbrev pub outcome : {K : Type 0} → Result K DescFault → Result Unit DescFault
@@ -26,7 +26,7 @@ abbrev pub arg_words : Result MethodType DescFault → Result ℕ DescFault
 arg_words (Ok type) = Ok (sum_by words type.args)
 arg_words (Err e) = Err e
 
-abbrev pub verdict_of : List ℕ → Verdict
+abbrev pub verdict_of : List ℕ → TextVerdict
 verdict_of text = record {
   field = outcome (field_kind text);
   method = arg_words (method_kinds text);
@@ -39,5 +39,5 @@ abbrev pub units_in : Const → List ℕ
 units_in (const.Utf8 units) = units
 units_in other = []
 
-abbrev pub verdicts_of : List Const → List Verdict
+abbrev pub verdicts_of : List Const → List TextVerdict
 verdicts_of pool = map (λ entry. verdict_of (units_in entry)) pool

@@ -18,7 +18,7 @@ use std::marker::Model;
 
 /// What a text is, as a descriptor and as a declared name.
 #[derive(Clone, Copy)]
-pub struct Verdict {
+pub struct TextVerdict {
     /// Whether it is a field's descriptor, or why not.
     pub field: Result<(), DescFault>,
     /// The words of the arguments, if it is a method's descriptor, or why it isn't.
@@ -33,7 +33,7 @@ pub struct Verdict {
 #[derive(Drop)]
 pub struct CheckedPool<'a> {
     pool: &'a [Const],
-    verdicts: Vec<Verdict>,
+    verdicts: Vec<TextVerdict>,
 }
 
 impl<'a> Model for CheckedPool<'a> {
@@ -78,10 +78,10 @@ fn method_verdict(alloc: Global, text: &Name) -> Result<Result<u128, DescFault>,
     }
 }
 
-fn verdict_of(alloc: Global, text: &Name) -> Result<Verdict, Memory>
+fn verdict_of(alloc: Global, text: &Name) -> Result<TextVerdict, Memory>
     ensures { IfOk result (λ v. v ≡ verdict_of text.now) }
 {
-    Ok(Verdict {
+    Ok(TextVerdict {
         field: field_verdict(alloc, text)?,
         method: method_verdict(alloc, text)?,
         names_field: is_field_name(text.as_slice()),
@@ -90,7 +90,7 @@ fn verdict_of(alloc: Global, text: &Name) -> Result<Verdict, Memory>
 }
 
 // An entry that is no text has the verdict on the empty text, which nothing asks for.
-fn entry_verdict(alloc: Global, none: &Name, entry: &Const) -> Result<Verdict, Memory>
+fn entry_verdict(alloc: Global, none: &Name, entry: &Const) -> Result<TextVerdict, Memory>
     requires { none.now ≡ [] }
     ensures { IfOk result (λ v. v ≡ verdict_of (units_in entry.now)) }
 {
@@ -100,7 +100,7 @@ fn entry_verdict(alloc: Global, none: &Name, entry: &Const) -> Result<Verdict, M
     }
 }
 
-fn verdicts_of(alloc: Global, pool: &[Const]) -> Result<Vec<Verdict>, Memory>
+fn verdicts_of(alloc: Global, pool: &[Const]) -> Result<Vec<TextVerdict>, Memory>
     ensures { IfOk result (λ vs. vs.items ≡ verdicts_of pool.now) }
 {
     let none = Seq::new(alloc);
@@ -138,7 +138,7 @@ impl<'a> CheckedPool<'a> {
     }
 
     /// The text that an index names, and the verdict on it.
-    pub fn text(&self, index: u16) -> Option<(&Name, Verdict)>
+    pub fn text(&self, index: u16) -> Option<(&Name, TextVerdict)>
         ensures { MatchOption result (text_of self.now index ≡ None) (λ x.
             (text_of self.now index ≡ Some x.0.now) × (x.1 ≡ verdict_of x.0.now)) }
     {

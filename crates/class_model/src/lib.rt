@@ -29,7 +29,7 @@ mod text;
 pub use annotation::{Note, Token};
 pub use attribute::{Attr, Body, Code, Row};
 pub use boxed::Boxed;
-pub use checked_pool::{CheckedPool, Verdict};
+pub use checked_pool::{CheckedPool, TextVerdict};
 pub use class::{Class, ClassId, Member};
 pub use constant::{Const, push_entries};
 pub use copies::Copied;

@@ -1,5 +1,5 @@
 -- What is passed on of crates below.
-pub use Rattle.jvm_calls.specs.declared.calling.Callee.{Callee}
+pub use Rattle.jvm_calls.specs.declared.calling.CalledCode.{CalledCode}
 pub use Rattle.jvm_initialization.specs.Begins.{AreWhole, HasBegun, IsOfMethod, StaysOrBegins}
 pub use Rattle.jvm_initialization.specs.Begins.{all_on}
 pub use Rattle.jvm_initialization.specs.Needs.{IsWithin, ReadiesTo, TellsNeed, Use, using}

@@ -10,7 +10,7 @@ ghost use Rattle.jvm_unwind.specs.Unwinding.{AreHandlersOf};
 use class_link::{LinkedCode, LinkedMethod, Shared};
 use class_model::{ClassId, Kind, Memory};
 use class_table::Program;
-use jvm_code::Code;
+use jvm_code::DecodedCode;
 use jvm_initialization::is_initializer;
 use jvm_unwind::{Handlers, catch_rows};
 use std::alloc::Global;
@@ -21,7 +21,7 @@ use std::alloc::Global;
 #[derive(Drop)]
 pub struct MethodCode {
     pub linked: Shared<LinkedCode>,
-    pub code: Code,
+    pub code: DecodedCode,
     pub handlers: Handlers,
     pub result: Shared<Option<Kind>>,
 }

@@ -16,7 +16,7 @@ use std::alloc::Global;
 
 /// A method with code: its class and its place there, and what its frame takes.
 #[derive(Clone, Copy)]
-pub struct Callee {
+pub struct CalledCode {
     pub class: ClassId,
     pub method: u32,
     pub max_locals: u16,
@@ -31,7 +31,7 @@ pub fn call(
     alloc: Global,
     p: &Program,
     kinds: &[Kind],
-    callee: Callee,
+    callee: CalledCode,
 ) -> Result<Turn, Memory>
     requires { IsWorldOf p.now world.old }
     ensures row { IfOk result (λ t.

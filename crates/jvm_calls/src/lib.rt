@@ -5,5 +5,5 @@ mod calling;
 mod results;
 mod returning;
 
-pub use calling::{Callee, call};
+pub use calling::{CalledCode, call};
 pub use returning::{return_int, return_long, return_plain, return_reference};

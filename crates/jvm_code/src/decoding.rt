@@ -209,7 +209,7 @@ pub fn decode_one(i: Instruction, long: u32) -> Op
 
 /// The instructions of a method in eight bytes each, in their order, and the longs that they name.
 #[derive(Drop)]
-pub struct Code {
+pub struct DecodedCode {
     pub ops: Vec<Op>,
     pub longs: Vec<i64>,
 }
@@ -238,7 +238,7 @@ fn list_long(i: Instruction, longs: &mut Vec<i64>) -> Result<(), Memory>
 
 /// Decodes the instructions of a method. Memory runs out too where their long constants are more
 /// than can be numbered.
-pub fn decode(alloc: Global, instructions: &[Instruction]) -> Result<Code, Memory>
+pub fn decode(alloc: Global, instructions: &[Instruction]) -> Result<DecodedCode, Memory>
     ensures { IfOk result (λ code. AreDecoded instructions.now code.ops.items code.longs.items) }
 {
     let mut ops = Vec::with_capacity(alloc, instructions.len())?;
@@ -250,5 +250,5 @@ pub fn decode(alloc: Global, instructions: &[Instruction]) -> Result<Code, Memor
         list_long(*instruction, &mut longs)?;
         ops.push(decode_one(*instruction, long))?;
     }
-    Ok(Code { ops, longs })
+    Ok(DecodedCode { ops, longs })
 }

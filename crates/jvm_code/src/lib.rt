@@ -4,4 +4,4 @@
 
 mod decoding;
 
-pub use decoding::{Code, decode, decode_one, long_of};
+pub use decoding::{DecodedCode, decode, decode_one, long_of};

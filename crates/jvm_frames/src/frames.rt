@@ -20,7 +20,7 @@ use std::marker::Model;
 
 /// Where a frame stands: its class and its method by number, and its instruction.
 #[derive(Clone, Copy)]
-pub struct Place {
+pub struct FramePlace {
     pub class: ClassId,
     pub method: u32,
     pub at: usize,
@@ -91,13 +91,13 @@ impl Frames {
     }
 
     /// Where the running frame stands.
-    pub fn place(&self) -> Option<Place>
+    pub fn place(&self) -> Option<FramePlace>
         ensures some { IfSome result (λ r.
             IsSomeAnd self.now.frame (IsAt r.class.0 r.method r.at)) }
         ensures none { IfNone result (self.now.frame ≡ None) }
     {
         let frame = self.frame?;
-        Some(Place {
+        Some(FramePlace {
             class: frame.class,
             method: frame.method,
             at: frame.at,

@@ -10,6 +10,6 @@ mod pushing;
 mod staying;
 mod values;
 
-pub use frames::{Args, Frames, Place};
+pub use frames::{Args, FramePlace, Frames};
 pub use laws::stays_are_steps;
 pub use values::is_of_kind;

@@ -21,7 +21,7 @@ use Rattle.jvm_world.specs.View.{Means}
 use Rattle.jvm_rows.proofs.Ends.{each, some_and}
 use Rattle.jvm_unwind.specs.declared.turn.Turn.{Turn}
 use Rattle.jvm_unwind.specs.Turns.{row_at, Turns}
-use Rattle.jvm_calls.specs.declared.calling.Callee as calls_code
+use Rattle.jvm_calls.specs.declared.calling.CalledCode as calls_code
 use Rattle.jvm_calls.specs.Calls.{IsCallOf}
 use Rattle.jvm_link.specs.declared.site.Site.{Site}
 use Rattle.jvm_link.specs.declared.site.Callee.TheVariants as callee
@@ -89,7 +89,7 @@ called_by p q room count m s l k f old v is e =
 same_method : (p : List Info) (s : Site) (l k : LinkedMethod) → StandsAt p s l → StandsAt p s k → k ≡ l
 same_method p s l k a b = same_some k l (sym b ∙ a)
 
-pub code_same : (p : List Info) (m : MethodAt) (s : Site) (h : heads.Head) (locals stack count : ℕ) (code : calls_code.Callee) (old : NumberedFrames) (w : World) → IsMethod p (Some m) s → ((l : LinkedMethod) → StandsAt p s l → IsHead s l h) → h.body ≡ body.Code locals stack → code ≡ record { class = s.class; method = h.number; max_locals = locals; max_stack = stack } → SameRow p (calls_with p count m) (entering p w.limits count code) old w
+pub code_same : (p : List Info) (m : MethodAt) (s : Site) (h : heads.Head) (locals stack count : ℕ) (code : calls_code.CalledCode) (old : NumberedFrames) (w : World) → IsMethod p (Some m) s → ((l : LinkedMethod) → StandsAt p s l → IsHead s l h) → h.body ≡ body.Code locals stack → code ≡ record { class = s.class; method = h.number; max_locals = locals; max_stack = stack } → SameRow p (calls_with p count m) (entering p w.limits count code) old w
 code_same p m s h locals stack count code old w is head e same =
     let found = stands p m s is in
     let k = head found.method found.there in
@@ -99,7 +99,7 @@ code_same p m s h locals stack count code old w is head e same =
     (λ f v.
     called_by p w.limits f.room count m s found.method (Written locals) f old v found.is b.0
     ∙ ap (λ (n : ℕ). row_at p (entering p w.limits count (record { class = s.class; method = n; max_locals = locals; max_stack = stack })) f old v) (sym k.number)
-    ∙ ap (λ (c : calls_code.Callee). row_at p (entering p w.limits count c) f old v) (sym same))
+    ∙ ap (λ (c : calls_code.CalledCode). row_at p (entering p w.limits count c) f old v) (sym same))
 
 pub empty_same : (p : List Info) (m : MethodAt) (s : Site) (h : heads.Head) (count : ℕ) (old : NumberedFrames) (w : World) → IsMethod p (Some m) s → ((l : LinkedMethod) → StandsAt p s l → IsHead s l h) → h.body ≡ body.Empty → SameRow p (calls_with p count m) (throws_cut count AbstractMethodError w.limits) old w
 empty_same p m s h count old w is head e =
@@ -109,7 +109,7 @@ empty_same p m s h count old w is head e =
     (λ f. (v : def.World) → row_at p (calls_with p count m w.limits f.room) f old v ≡ row_at p (throws_cut count AbstractMethodError w.limits) f old v)
     (λ f v. called_by p w.limits f.room count m s found.method Abstractly f old v found.is b)
 
-pub code_call : (p : List Info) (r : MethodRef) (m : MethodAt) (s : Site) (h : heads.Head) (locals stack count : ℕ) (code : calls_code.Callee) (t : Turn) (old new : NumberedFrames) (w u : World) → IsMethod p (Some m) s → ((l : LinkedMethod) → StandsAt p s l → IsHead s l h) → h.body ≡ body.Code locals stack → code ≡ record { class = s.class; method = h.number; max_locals = locals; max_stack = stack } → Turns p (entering p w.limits count code) t old new w u → Invokes p r (calls_with p count m) (invoked.Turned t) old new w u
+pub code_call : (p : List Info) (r : MethodRef) (m : MethodAt) (s : Site) (h : heads.Head) (locals stack count : ℕ) (code : calls_code.CalledCode) (t : Turn) (old new : NumberedFrames) (w u : World) → IsMethod p (Some m) s → ((l : LinkedMethod) → StandsAt p s l → IsHead s l h) → h.body ≡ body.Code locals stack → code ≡ record { class = s.class; method = h.number; max_locals = locals; max_stack = stack } → Turns p (entering p w.limits count code) t old new w u → Invokes p r (calls_with p count m) (invoked.Turned t) old new w u
 code_call p r m s h locals stack count code t old new w u is head e same k =
     turned p r (calls_with p count m) (entering p w.limits count code) t old new w u
     (code_same p m s h locals stack count code old w is head e same) k
@@ -154,13 +154,13 @@ with_and : {A : Type 0} (o : Option A) (P : A → Type 0) (Q : Type 0) → IsSom
 with_and None P Q h go = absurd h
 with_and (Some x) P Q h go = go x h
 
-pub code_frames : (p : List Info) (s : Site) (h : heads.Head) (locals stack count : ℕ) (code : calls_code.Callee) (old new : NumberedFrames) → IsSite p s → ((l : LinkedMethod) → StandsAt p s l → IsHead s l h) → h.body ≡ body.Code locals stack → code ≡ record { class = s.class; method = h.number; max_locals = locals; max_stack = stack } → IsCallOf count code old new → StaysOrEnters p old new
+pub code_frames : (p : List Info) (s : Site) (h : heads.Head) (locals stack count : ℕ) (code : calls_code.CalledCode) (old new : NumberedFrames) → IsSite p s → ((l : LinkedMethod) → StandsAt p s l → IsHead s l h) → h.body ≡ body.Code locals stack → code ≡ record { class = s.class; method = h.number; max_locals = locals; max_stack = stack } → IsCallOf count code old new → StaysOrEnters p old new
 code_frames p s h locals stack count code old new is head e same (inl stays) = inl stays
 code_frames p s h locals stack count code old new is head e same (inr (inr cuts)) =
     inr (inr (record { count = count; frames = cuts }))
 code_frames p s h locals stack count code old new is head e same (inr (inl enters)) =
     let k : IsCalled count s.class.0 h.number locals stack old new =
-    subst (λ (c : calls_code.Callee). IsCalled count c.class.0 c.method c.max_locals c.max_stack old new) same enters in
+    subst (λ (c : calls_code.CalledCode). IsCalled count c.class.0 c.method c.max_locals c.max_stack old new) same enters in
     let P : NumberedFrame → Type 0 = λ f. new ≡ called count s.class.0 h.number locals stack f old.callers in
     inr (inl (record {
       count = count;

@@ -12,7 +12,7 @@ use Rattle.class_table.specs.Table.{look}
 use Rattle.jvm_state.specs.Rows.{Row}
 use Rattle.jvm_frames.specs.Frames.{args_on}
 use Rattle.jvm_rows.specs.Effects.{RowOf}
-use Rattle.jvm_calls.specs.declared.calling.Callee as calls
+use Rattle.jvm_calls.specs.declared.calling.CalledCode as calls
 use Rattle.jvm_calls.specs.Calls.{enters_from}
 use Rattle.jvm_link.specs.declared.site.Site.{Site}
 use Rattle.jvm_link.specs.declared.site.Callee.{Callee}
@@ -31,7 +31,7 @@ IsThere p (callee.Method s) = IsSite p s
 IsThere p callee.ArrayClone = ⊤
 
 -- A method with code is called with the uppermost values of the stack, so many.
-abbrev pub entering : List Info → Limits → ℕ → calls.Callee → Row
+abbrev pub entering : List Info → Limits → ℕ → calls.CalledCode → Row
 entering p q count m = λ w f fs.
     enters_from p q m w f fs (args_on count f.stack) (drop count f.stack)
 

@@ -18,7 +18,7 @@ use crate::heads::{Body, Head, head_at};
 use crate::invoked::Invoked;
 use class_model::Memory;
 use class_table::Program;
-use jvm_calls::Callee as Code;
+use jvm_calls::CalledCode;
 use jvm_frames::{Args, Frames};
 use jvm_link::{Callee, Site};
 use jvm_unwind::Turn;
@@ -34,7 +34,7 @@ pub fn enter_code(
     world: &mut World,
     alloc: Global,
     p: &Program,
-    code: Code,
+    code: CalledCode,
     args: Args,
 ) -> Result<Turn, Memory>
     requires world { IsWorldOf p.now world.old }
@@ -88,7 +88,7 @@ pub fn throw_without(
 
 /// The method of a class, with what its frame takes.
 #[inline(always)]
-pub fn code_of(site: Site, number: u32, max_locals: u16, max_stack: u16) -> Code
+pub fn code_of(site: Site, number: u32, max_locals: u16, max_stack: u16) -> CalledCode
     ensures { result ≡ record {
       class = site.class;
       method = number;
@@ -96,7 +96,7 @@ pub fn code_of(site: Site, number: u32, max_locals: u16, max_stack: u16) -> Code
       max_stack = max_stack;
     } }
 {
-    Code {
+    CalledCode {
         class: site.class,
         method: number,
         max_locals,

@@ -1,7 +1,7 @@
 -- What is passed on of crates below.
 pub use Rattle.jvm_act.specs.Acts.{IsLeft, Leaves, RunsCode, StandsAtOp, TurnsAs, acting}
 pub use Rattle.jvm_act.specs.Acts.{throwing_row}
-pub use Rattle.jvm_act.specs.Below.{AreLayouts, AreLookups, AreNatives, AreSlots, AreWhole, Callee}
+pub use Rattle.jvm_act.specs.Below.{AreLayouts, AreLookups, AreNatives, AreSlots, AreWhole, CalledCode}
 pub use Rattle.jvm_act.specs.Below.{FindsClass, HasBegun, Head, IsBody, IsHead, IsOfMethod, IsSite}
 pub use Rattle.jvm_act.specs.Below.{IsWithin, Readied, ReadiesTo, Runs, StandsAt, StaysOrBegins}
 pub use Rattle.jvm_act.specs.Below.{TellsNeed, Use, all_on, jvm_invokes_IsOfMethod, made_names}

@@ -5,8 +5,8 @@ mod marking;
 mod reaching;
 
 pub use jvm_act::{
-    Acted, Body, Callee, Codes, Effect, Layouts, Lookups, MethodCode, Natives, Need, Owned,
-    Readied, Slots, act, act_beyond, head_at, make_ready, name_at, need_for, op_at,
+    Acted, Body, CalledCode, Codes, Effect, Layouts, Lookups, MethodCode, Natives, Need, Owned,
+    Readied, Slots, act, act_beyond, code_of, head_at, make_ready, name_at, need_for, op_at,
     store_reference, take_call, unwind_frame,
 };
 pub use jvm_unwind::{CatchRow, Turn, find_handler};

@@ -13,7 +13,7 @@ use crate::reaching::{is_from_file, line_of};
 use class_model::{ClassId, Memory};
 use class_table::Program;
 use jvm_act::MethodCode;
-use jvm_frames::Place;
+use jvm_frames::FramePlace;
 use jvm_world::World;
 use std::alloc::Global;
 use std::marker::Model;
@@ -187,7 +187,7 @@ pub fn marks_of(all: &[MethodMarks], class: ClassId, method: u32) -> Option<&[bo
 }
 
 // Whether an instruction of a method has a mark.
-fn has_mark(all: &[MethodMarks], place: Place) -> bool {
+fn has_mark(all: &[MethodMarks], place: FramePlace) -> bool {
     match marks_of(all, place.class, place.method) {
         Some(marks) => is_marked(marks, place.at),
         None => false,
@@ -196,7 +196,7 @@ fn has_mark(all: &[MethodMarks], place: Place) -> bool {
 
 // Whether the line of the instruction at which a frame stands was reached, where its class comes
 // from a class file.
-fn is_line_reached(p: &Program, world: &World, method: &MethodCode, place: Place) -> bool
+fn is_line_reached(p: &Program, world: &World, method: &MethodCode, place: FramePlace) -> bool
     requires world { IsWorldOf p.now world.now }
     requires class { place.class.0 < length p.now }
     requires code { IsCodeOf p.now place.class.0 place.method method.now }
@@ -215,7 +215,7 @@ pub fn note_line(
     p: &Program,
     world: &World,
     method: &MethodCode,
-    place: Place,
+    place: FramePlace,
 ) -> Result<(), Memory>
     requires world { IsWorldOf p.now world.now }
     requires class { place.class.0 < length p.now }

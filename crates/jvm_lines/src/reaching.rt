@@ -12,7 +12,7 @@ ghost use Rattle.jvm_lines.specs.Lines.{ReachesLine};
 use class_model::{ClassId, Memory};
 use class_table::Program;
 use jvm_act::MethodCode;
-use jvm_frames::Place;
+use jvm_frames::FramePlace;
 use jvm_world::World;
 
 /// Whether a class comes from a class file.
@@ -39,7 +39,7 @@ pub fn reach_line(
     world: &mut World,
     p: &Program,
     method: &MethodCode,
-    place: Place,
+    place: FramePlace,
 ) -> Result<(), Memory>
     requires world { IsWorldOf p.now world.old }
     requires class { place.class.0 < length p.now }

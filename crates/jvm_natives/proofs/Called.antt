@@ -22,7 +22,7 @@ use Rattle.jvm_unwind.specs.declared.turn.Turn.TheVariants as turn
 use Rattle.jvm_unwind.specs.Turns.{frame_of, row_at}
 use Rattle.jvm_link.specs.declared.site.Site.{Site}
 use Rattle.jvm_link.specs.Sites.{IsMethod}
-use Rattle.jvm_calls.specs.declared.calling.Callee as calls_code
+use Rattle.jvm_calls.specs.declared.calling.CalledCode as calls_code
 use Rattle.jvm_calls.specs.Calls.{IsCallOf}
 use Rattle.jvm_invokes.specs.declared.heads.Body.TheVariants as body
 use Rattle.jvm_invokes.specs.declared.heads.Head as heads
@@ -129,6 +129,6 @@ entered_or p old new (inl e) = inl (subst (λ s. HasGoneOn old s) (sym e) (given
 entered_or p old new (inr (inl h)) = inr (inl h)
 entered_or p old new (inr (inr h)) = inl (given.cut_on h.count old new h.frames)
 
-pub code_frames : (p : List Info) (s : Site) (h : heads.Head) (locals stack count : ℕ) (code : calls_code.Callee) (old new : NumberedFrames) → IsSite p s → ((l : LinkedMethod) → StandsAt p s l → IsHead s l h) → h.body ≡ body.Code locals stack → code ≡ record { class = s.class; method = h.number; max_locals = locals; max_stack = stack } → IsCallOf count code old new → GoesOnOrEnters p old new
+pub code_frames : (p : List Info) (s : Site) (h : heads.Head) (locals stack count : ℕ) (code : calls_code.CalledCode) (old new : NumberedFrames) → IsSite p s → ((l : LinkedMethod) → StandsAt p s l → IsHead s l h) → h.body ≡ body.Code locals stack → code ≡ record { class = s.class; method = h.number; max_locals = locals; max_stack = stack } → IsCallOf count code old new → GoesOnOrEnters p old new
 code_frames p s h locals stack count code old new is head e same k =
     entered_or p old new (standing.code_frames p s h locals stack count code old new is head e same k)

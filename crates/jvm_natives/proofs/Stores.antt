@@ -13,7 +13,7 @@ use Rattle.machine_rules.specs.Performing.{NativeResult, HeapFull, performs}
 use Rattle.machine_rules.specs.Effects.{Effect}
 use Rattle.machine_rules.specs.Calls.{ends_native}
 use Rattle.jvm_values.specs.Contents.{Contents}
-use Rattle.jvm_values.specs.declared.kept.Kept.{Kept}
+use Rattle.jvm_values.specs.declared.kept.KeptObjects.{KeptObjects}
 use Rattle.jvm_values.specs.declared.object.ObjKind.{ObjKind}
 use Rattle.jvm_values.specs.declared.object.ObjKind.TheVariants as kind
 use Rattle.jvm_values.specs.declared.object.Object.{Object}
@@ -73,15 +73,15 @@ heap_is p w v m = ap (λ (x : def.World). x.heap) m.world
 
 -- ---- the world behind a deed
 
-abbrev pub with_heap : World → Contents → Kept → World
+abbrev pub with_heap : World → Contents → KeptObjects → World
 with_heap w heap kept = record w { heap = heap; kept = kept }
 
-store_is : (p : List Info) (w : World) (heap : Contents) (kept : Kept) (past : History) → with_store (names p) heap kept (world_of p w past) ≡ world_of p (with_heap w heap kept) past
+store_is : (p : List Info) (w : World) (heap : Contents) (kept : KeptObjects) (past : History) → with_store (names p) heap kept (world_of p w past) ≡ world_of p (with_heap w heap kept) past
 unfolding world_of
 store_is p w heap kept past =
     ap (λ (os : List def_objects.Object). record (world_of p (with_heap w heap kept) past) { heap = os }) (objects_same p heap.objects)
 
-means_behind : (p : List Info) (w : World) (heap : Contents) (kept : Kept) (v : def.World) (m : Means p w v) → Means p (with_heap w heap kept) (world_of p (with_heap w heap kept) m.past)
+means_behind : (p : List Info) (w : World) (heap : Contents) (kept : KeptObjects) (v : def.World) (m : Means p w v) → Means p (with_heap w heap kept) (world_of p (with_heap w heap kept) m.past)
 means_behind p w heap kept v m = record {
   past = m.past;
   history = record {
@@ -94,17 +94,17 @@ means_behind p w heap kept v m = record {
 }
 
 -- What the deed comes to in a world that is meant.
-done_in : (p : List Info) (w : World) (known : Known) (d : deeds.Deed) (heap : Contents) (kept : Kept) (e : NativeEnd) (v : def.World) (m : Means p w v) → IsWorldOf p w → IsKnown (names p) known → Does known d w.heap w.kept heap kept e → performs w.limits.heap v d ≡ result_of w.limits.heap (world_of p (with_heap w heap kept) m.past) e
+done_in : (p : List Info) (w : World) (known : Known) (d : deeds.Deed) (heap : Contents) (kept : KeptObjects) (e : NativeEnd) (v : def.World) (m : Means p w v) → IsWorldOf p w → IsKnown (names p) known → Does known d w.heap w.kept heap kept e → performs w.limits.heap v d ≡ result_of w.limits.heap (world_of p (with_heap w heap kept) m.past) e
 done_in p w known d heap kept e v m h k does =
     subst (λ n. performs n v d ≡ result_of n (world_of p (with_heap w heap kept) m.past) e) h.limit
     (ap (λ x. performs w.heap.limit x d) (m.world ∙ sym (store_is p w w.heap w.kept m.past))
     ∙ does (names p) (world_of p w m.past) k
     ∙ ap (λ x. result_of w.heap.limit x e) (store_is p w heap kept m.past))
 
-pub same_store : (w : World) (heap : Contents) (kept : Kept) → heap ≡ w.heap → kept ≡ w.kept → with_heap w heap kept ≡ w
+pub same_store : (w : World) (heap : Contents) (kept : KeptObjects) → heap ≡ w.heap → kept ≡ w.kept → with_heap w heap kept ≡ w
 same_store w heap kept a b = λ i. with_heap w (a i) (b i)
 
-world_same : (p : List Info) (w : World) (heap : Contents) (kept : Kept) (v : def.World) (m : Means p w v) → (heap ≡ w.heap) × (kept ≡ w.kept) → v ≡ world_of p (with_heap w heap kept) m.past
+world_same : (p : List Info) (w : World) (heap : Contents) (kept : KeptObjects) (v : def.World) (m : Means p w v) → (heap ≡ w.heap) × (kept ≡ w.kept) → v ≡ world_of p (with_heap w heap kept) m.past
 world_same p w heap kept v m s =
     m.world ∙ ap (λ (u : World). world_of p u m.past) (sym (same_store w heap kept s.0 s.1))
 
@@ -116,7 +116,7 @@ Ends p n v z e =
 ends_at : (p : List Info) (n : ℕ) (v z : def.World) (e : NativeEnd) → v ≡ z → Ends p n v z e
 ends_at p n v z e same q f fs room = ap (λ x. ends_native (look p) q x f fs room (result_of n z e)) same
 
-ends_by : (p : List Info) (w : World) (heap : Contents) (kept : Kept) (n : ℕ) (v : def.World) (m : Means p w v) (e : NativeEnd) → StaysFor e w.heap w.kept heap kept → Ends p n v (world_of p (with_heap w heap kept) m.past) e
+ends_by : (p : List Info) (w : World) (heap : Contents) (kept : KeptObjects) (n : ℕ) (v : def.World) (m : Means p w v) (e : NativeEnd) → StaysFor e w.heap w.kept heap kept → Ends p n v (world_of p (with_heap w heap kept) m.past) e
 ends_by p w heap kept n v m (end.Returns x) s = λ q f fs room. refl
 ends_by p w heap kept n v m (end.Raises x) s =
     ends_at p n v (world_of p (with_heap w heap kept) m.past) (end.Raises x) (world_same p w heap kept v m s)
@@ -127,7 +127,7 @@ ends_by p w heap kept n v m (end.ReturnsWithin x y z fault) s =
 ends_by p w heap kept n v m end.NoResult s =
     ends_at p n v (world_of p (with_heap w heap kept) m.past) end.NoResult (world_same p w heap kept v m s)
 
-pub performed : (p : List Info) (w : World) (known : Known) (d : deeds.Deed) (heap : Contents) (kept : Kept) (e : NativeEnd) → IsWorldOf p w → IsKnown (names p) known → Does known d w.heap w.kept heap kept e → StaysFor e w.heap w.kept heap kept → PerformsTo p w (with_heap w heap kept) d (Some e)
+pub performed : (p : List Info) (w : World) (known : Known) (d : deeds.Deed) (heap : Contents) (kept : KeptObjects) (e : NativeEnd) → IsWorldOf p w → IsKnown (names p) known → Does known d w.heap w.kept heap kept e → StaysFor e w.heap w.kept heap kept → PerformsTo p w (with_heap w heap kept) d (Some e)
 performed p w known d heap kept e h k does stays v m =
     let z : def.World = world_of p (with_heap w heap kept) m.past in
     record {
@@ -138,7 +138,7 @@ performed p w known d heap kept e h k does stays v m =
           ∙ ends_by p w heap kept w.limits.heap v m e stays q f fs room;
     }
 
-pub refused : (p : List Info) (w : World) (known : Known) (d : deeds.Deed) (heap : Contents) (kept : Kept) → IsWorldOf p w → IsKnown (names p) known → IsRefused known d w.heap w.kept heap kept → PerformsTo p w (with_heap w heap kept) d None
+pub refused : (p : List Info) (w : World) (known : Known) (d : deeds.Deed) (heap : Contents) (kept : KeptObjects) → IsWorldOf p w → IsKnown (names p) known → IsRefused known d w.heap w.kept heap kept → PerformsTo p w (with_heap w heap kept) d None
 refused p w known d heap kept h k is = record {
   full = λ v m.
       subst (λ n. performs n v d ≡ HeapFull) h.limit
@@ -157,7 +157,7 @@ short_of : (os : List Object) → HaveFewer (2 ^ 31) os → AreShort os
 short_of [] h = tt
 short_of (o ∷ os) h = (h.0, short_of os h.1)
 
-pub kept_by : (p : List Info) (w : World) (d : Deed) (heap : Contents) (kept : Kept) → IsWorldOf p w → DoesFewer (2 ^ 31) d → DoesFew d w.heap heap → IsKept p w (with_heap w heap kept)
+pub kept_by : (p : List Info) (w : World) (d : Deed) (heap : Contents) (kept : KeptObjects) → IsWorldOf p w → DoesFewer (2 ^ 31) d → DoesFew d w.heap heap → IsKept p w (with_heap w heap kept)
 kept_by p w d heap kept h fewer few = record {
   world = record {
     program = h.program;
@@ -173,6 +173,6 @@ kept_by p w d heap kept h fewer few = record {
   limits = refl;
 }
 
-pub kept_same : (p : List Info) (w : World) (heap : Contents) (kept : Kept) → IsWorldOf p w → (heap ≡ w.heap) × (kept ≡ w.kept) → IsKept p w (with_heap w heap kept)
+pub kept_same : (p : List Info) (w : World) (heap : Contents) (kept : KeptObjects) → IsWorldOf p w → (heap ≡ w.heap) × (kept ≡ w.kept) → IsKept p w (with_heap w heap kept)
 kept_same p w heap kept h s =
     subst (λ u. IsKept p w u) (sym (same_store w heap kept s.0 s.1)) (record { world = h; limits = refl })

@@ -23,7 +23,6 @@ use crate::natives::Natives;
 use crate::performing::perform_in;
 use class_model::{Kind, Memory};
 use class_table::Program;
-use jvm_calls::Callee as Code;
 use jvm_frames::{Args, Frames};
 use jvm_invokes::{Body, code_of, enter_code, head_at, throw_without};
 use jvm_link::Site;

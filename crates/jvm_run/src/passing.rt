@@ -20,14 +20,14 @@ use crate::taking::{Taken, is_calm, take_steps};
 use class_family::Walker;
 use class_model::{ClassId, Memory};
 use class_table::Program;
-use jvm_frames::Place;
+use jvm_frames::FramePlace;
 use jvm_step::{
     Layouts, Lookups, Machine, MethodCode, MethodMarks, Natives, Slots, Tables, marks_of, note_line,
 };
 use std::alloc::Global;
 
 // Whether a frame is of a method.
-fn is_of(place: Place, class: ClassId, number: u32) -> bool
+fn is_of(place: FramePlace, class: ClassId, number: u32) -> bool
     ensures class { result ≡ true → place.class.0 ≡ class.0 }
     ensures number { result ≡ true → place.method ≡ number }
 {

@@ -16,7 +16,7 @@ use crate::ending::Ending;
 use class_model::names::joined;
 use class_model::{ClassId, Memory, Name, Seq};
 use class_table::{Call, Program};
-use jvm_frames::Place;
+use jvm_frames::FramePlace;
 use jvm_step::Machine;
 use jvm_world::Script;
 use std::alloc::Global;
@@ -37,7 +37,7 @@ pub fn method_text(alloc: Global, p: &Program, class: ClassId, method: u32) -> R
 }
 
 // The place of a frame.
-fn frame_place(alloc: Global, p: &Program, place: Place) -> Result<Ending, Memory>
+fn frame_place(alloc: Global, p: &Program, place: FramePlace) -> Result<Ending, Memory>
     requires { place.class.0 < length p.now }
     ensures { IfOk result (λ e. e ≡ ending_in (StuckAt (record {
       class = name_at p.now place.class.0;

@@ -22,7 +22,7 @@ use Rattle.jvm_world.specs.View.{Means, Takes, Throws, call_of}
 use Rattle.jvm_lines.specs.Below.{Turn}
 use Rattle.jvm_lines.specs.Below.jvm_unwind_declared_turn_Turn_TheVariants as turn
 use Rattle.jvm_lines.specs.Below.{frame_of, frames_of}
-use Rattle.jvm_lines.specs.Below.{Callee}
+use Rattle.jvm_lines.specs.Below.{CalledCode}
 use Rattle.jvm_lines.specs.Below.{AreWhole, HasBegun, IsOfMethod, StaysOrBegins, all_on}
 use Rattle.jvm_link.specs.declared.site.Site.{Site}
 use Rattle.jvm_link.specs.Sites.{IsMethod}
@@ -39,7 +39,7 @@ pub room_is : (s : NumberedFrames) (n : ℕ) (b c : Bool) → s.frame ≡ None �
 room_is s n b c none is e =
     sym (ap (λ (o : Option NumberedFrame). nat_lt (depth_of o s.callers) n) none) ∙ sym is ∙ e
 
-module _ (p : List Info) (c : Callee) (x : Option ℕ) where
+module _ (p : List Info) (c : CalledCode) (x : Option ℕ) where
   abbrev entering : Step
   entering = enters_code (name_at p c.class.0) c.method c.max_locals (instance_args x)
 
@@ -111,7 +111,7 @@ module _ (p : List Info) (s : Site) (args : List Value) (t : Turn) (new : Number
       subst (λ (y : MethodAt). TurnedTo p (enters_method args y q) t new w u) (sym is)
       (subst (λ (y : Callable). TurnedTo p (enters_as y (name_at p s.class.0) s.place args q) t new w u) (sym e) h)
 
-pub code_entered : (p : List Info) (s : Site) (h : Head) (locals stack : ℕ) (c : Callee) (x : Option ℕ) (t : Turn) (new : NumberedFrames) (w u : World) → ((l : LinkedMethod) → StandsAt p s l → IsHead s l h) → h.body ≡ body.Code locals stack → c ≡ record { class = s.class; method = h.number; max_locals = locals; max_stack = stack } → StepsTo p (enters_code (name_at p c.class.0) c.method c.max_locals (instance_args x)) t new w u → StepsAt p s (enters_method (instance_args x)) t new w u
+pub code_entered : (p : List Info) (s : Site) (h : Head) (locals stack : ℕ) (c : CalledCode) (x : Option ℕ) (t : Turn) (new : NumberedFrames) (w u : World) → ((l : LinkedMethod) → StandsAt p s l → IsHead s l h) → h.body ≡ body.Code locals stack → c ≡ record { class = s.class; method = h.number; max_locals = locals; max_stack = stack } → StepsTo p (enters_code (name_at p c.class.0) c.method c.max_locals (instance_args x)) t new w u → StepsAt p s (enters_method (instance_args x)) t new w u
 code_entered p s h locals stack c x t new w u head e same steps m is q limits =
     let found = stands p m s is in
     let k = head found.method found.there in
@@ -120,7 +120,7 @@ code_entered p s h locals stack c x t new w u head e same steps m is q limits =
     let n = name_at p s.class.0 in
     entered_as p s a t new w u m found.method (Written locals) q found.is b.0
     (subst (λ (i : ℕ). TurnedTo p (enters_code n i locals a q) t new w u) k.number
-    (subst (λ (y : Callee). TurnedTo p (enters_code (name_at p y.class.0) y.method y.max_locals a q) t new w u) same (steps q limits)))
+    (subst (λ (y : CalledCode). TurnedTo p (enters_code (name_at p y.class.0) y.method y.max_locals a q) t new w u) same (steps q limits)))
 
 pub native_entered : (p : List Info) (s : Site) (h : Head) (n : Native) (x : Option ℕ) (new : NumberedFrames) (w u : World) → ((l : LinkedMethod) → StandsAt p s l → IsHead s l h) → h.body ≡ body.Native n → StepsAt p s (enters_method (instance_args x)) turn.NoRow new w u
 native_entered p s h n x new w u head e m is q limits =
@@ -139,10 +139,10 @@ empty_entered p s h x new w u head e m is q limits =
 pub stays : (p : List Info) (s : NumberedFrames) → StaysOrBegins p s s
 stays p s = inl refl
 
-pub stays_first : (x : Option ℕ) (c : Callee) (s : NumberedFrames) → StaysOrFirst x c s s
+pub stays_first : (x : Option ℕ) (c : CalledCode) (s : NumberedFrames) → StaysOrFirst x c s s
 stays_first x c s = inl refl
 
-pub is_first : (x : Option ℕ) (c : Callee) (old new : NumberedFrames) → new ≡ first_frame x c.class.0 c.method c.max_locals c.max_stack → StaysOrFirst x c old new
+pub is_first : (x : Option ℕ) (c : CalledCode) (old new : NumberedFrames) → new ≡ first_frame x c.class.0 c.method c.max_locals c.max_stack → StaysOrFirst x c old new
 is_first x c old new same = inr same
 
 pub no_callers : (s : NumberedFrames) → s.frame ≡ None → AreWhole s → s.callers ≡ []
@@ -160,11 +160,11 @@ method_frame p s h l locals stack x class there k e =
           ∙ ap (λ o. room_in (code_of o)) there ∙ b.1;
     }
 
-pub entered_frames : (p : List Info) (s : Site) (h : Head) (locals stack : ℕ) (c : Callee) (x : Option ℕ) (old new : NumberedFrames) → IsSite p s → ((l : LinkedMethod) → StandsAt p s l → IsHead s l h) → h.body ≡ body.Code locals stack → c ≡ record { class = s.class; method = h.number; max_locals = locals; max_stack = stack } → old.frame ≡ None → AreWhole old → StaysOrFirst x c old new → StaysOrBegins p old new
+pub entered_frames : (p : List Info) (s : Site) (h : Head) (locals stack : ℕ) (c : CalledCode) (x : Option ℕ) (old new : NumberedFrames) → IsSite p s → ((l : LinkedMethod) → StandsAt p s l → IsHead s l h) → h.body ≡ body.Code locals stack → c ≡ record { class = s.class; method = h.number; max_locals = locals; max_stack = stack } → old.frame ≡ None → AreWhole old → StaysOrFirst x c old new → StaysOrBegins p old new
 entered_frames p s h locals stack c x old new is head e same none whole (inl stay) = inl stay
 entered_frames p s h locals stack c x old new is head e same none whole (inr first) =
     let to : new ≡ first_frame x s.class.0 h.number locals stack =
-    first ∙ ap (λ (y : Callee). first_frame x y.class.0 y.method y.max_locals y.max_stack) same in
+    first ∙ ap (λ (y : CalledCode). first_frame x y.class.0 y.method y.max_locals y.max_stack) same in
     inr (subst (λ (z : NumberedFrames). HasBegun p old z) (sym to) (record {
       callers = sym (none_on old none whole);
       frame = method_frame p s h is.method locals stack x is.class is.there (head is.method is.there) e;

@@ -24,7 +24,7 @@ use Rattle.class_family.specs.Families.{rising_at}
 use Rattle.jvm_frames.specs.Frames.{NumberedFrames, first_frame}
 use Rattle.jvm_world.specs.declared.world.World.{World}
 use Rattle.jvm_lines.specs.Below.{Turn}
-use Rattle.jvm_lines.specs.Below.{Callee}
+use Rattle.jvm_lines.specs.Below.{CalledCode}
 use Rattle.jvm_lines.specs.Below.{Use}
 use Rattle.jvm_link.specs.declared.site.Site.{Site}
 use Rattle.jvm_link.specs.Sites.{IsMethod, OwnDeclared}
@@ -136,6 +136,6 @@ CallsOwn p own kind t new w u =
     StepsTo p (calls_named p a name kind) t new w u
 
 -- The first frame is put on, or there is none still.
-abbrev pub StaysOrFirst : Option ℕ → Callee → NumberedFrames → NumberedFrames → Type 0
+abbrev pub StaysOrFirst : Option ℕ → CalledCode → NumberedFrames → NumberedFrames → Type 0
 StaysOrFirst x c old new =
     (new ≡ old) ⊎ (new ≡ first_frame x c.class.0 c.method c.max_locals c.max_stack)

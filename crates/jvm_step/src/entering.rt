@@ -11,7 +11,7 @@ ghost use Rattle.jvm_step.specs.Steps.{StaysOrFirst, StepsAt, StepsTo, enters_co
 use class_model::Memory;
 use class_table::Program;
 use jvm_frames::Frames;
-use jvm_lines::{Body, Callee, Turn, head_at};
+use jvm_lines::{Body, CalledCode, Turn, code_of, head_at};
 use jvm_link::Site;
 use jvm_world::World;
 use program_rules::Fault;
@@ -45,23 +45,6 @@ fn fits(instance: Option<u32>, max_locals: u16) -> bool
     words_of(instance) <= max_locals
 }
 
-// The method of a class, with what its frame takes.
-fn code_of(site: Site, number: u32, max_locals: u16, max_stack: u16) -> Callee
-    ensures { result ≡ record {
-      class = site.class;
-      method = number;
-      max_locals = max_locals;
-      max_stack = max_stack;
-    } }
-{
-    Callee {
-        class: site.class,
-        method: number,
-        max_locals,
-        max_stack,
-    }
-}
-
 // A method with code is called with the instance of the test, if there is one. Past the depth of
 // the run a StackOverflowError is thrown.
 #[tactic(auto, using(crate::proofs::Entered::no_call, crate::proofs::Entered::unfit, crate::proofs::Entered::begins, crate::proofs::Entered::too_deep, crate::proofs::Entered::stays_first, crate::proofs::Entered::is_first, crate::proofs::Entered::no_callers))]
@@ -70,7 +53,7 @@ fn enter_code(
     world: &mut World,
     alloc: Global,
     p: &Program,
-    code: Callee,
+    code: CalledCode,
     instance: Option<u32>,
 ) -> Result<Turn, Memory>
     requires world { IsWorldOf p.now world.old }

@@ -18,7 +18,7 @@ use crate::machine::{Machine, Step};
 use crate::tables::Tables;
 use class_model::Memory;
 use class_table::Program;
-use jvm_frames::{Frames, Place};
+use jvm_frames::{FramePlace, Frames};
 use jvm_lines::{Codes, Turn, reach_line, unwind_frame};
 use jvm_world::World;
 use std::alloc::Global;
@@ -30,7 +30,7 @@ fn prepare_code(
     alloc: Global,
     p: &Program,
     frames: &Frames,
-    place: Place,
+    place: FramePlace,
 ) -> Result<(), Memory>
     requires codes { AreCodes p.now codes.old }
     requires frames { AreFramesOf p.now frames.now }
@@ -53,7 +53,7 @@ fn throw_on(
     alloc: Global,
     p: &Program,
     codes: &Codes,
-    place: Place,
+    place: FramePlace,
     object: u32,
 ) -> Result<Turn, Memory>
     requires world { IsWorldOf p.now world.old }
@@ -82,7 +82,7 @@ fn run_frame(
     alloc: Global,
     p: &Program,
     tables: &mut Tables,
-    place: Place,
+    place: FramePlace,
 ) -> Result<Turn, Memory>
     requires world { IsWorldOf p.now world.old }
     requires frames { AreFramesOf p.now frames.old }
@@ -126,7 +126,7 @@ fn turn_frame(
     p: &Program,
     tables: &mut Tables,
     thrown: Option<u32>,
-    place: Place,
+    place: FramePlace,
 ) -> Result<Turn, Memory>
     requires world { IsWorldOf p.now world.old }
     requires frames { AreFramesOf p.now frames.old }

@@ -10,5 +10,5 @@ mod object;
 pub use defaults::default_value;
 pub use fault::HeapFault;
 pub use heap::Heap;
-pub use kept::{Kept, KeptBox};
+pub use kept::{KeptBox, KeptObjects};
 pub use object::{ArrayKind, ObjKind, Object};

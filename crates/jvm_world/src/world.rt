@@ -27,7 +27,7 @@ use crate::values::default_value;
 use class_model::{ClassId, Kind, Memory, Name, Seq};
 use class_table::{Consulted, Program, Test};
 use jvm_marks::{Begun, Reached};
-use jvm_values::{ArrayKind, Heap, HeapFault, Kept, ObjKind, Object};
+use jvm_values::{ArrayKind, Heap, HeapFault, KeptObjects, ObjKind, Object};
 use machine_rules::{InitState, Limits, Stop};
 use program_rules::{Fault, Value};
 use std::alloc::Global;
@@ -37,7 +37,7 @@ use std::alloc::Global;
 pub struct World {
     pub heap: Heap,
     /// The boxes that were made; literals and class objects stand by themselves.
-    pub kept: Kept,
+    pub kept: KeptObjects,
     pub statics: Statics,
     /// How far each class has come.
     pub begun: Begun,
@@ -124,7 +124,7 @@ impl World {
         let _ = p.len();
         Ok(World {
             heap: Heap::new(alloc, limits.heap),
-            kept: Kept::new(alloc),
+            kept: KeptObjects::new(alloc),
             statics: Statics::new(alloc),
             begun: Begun::new(alloc),
             literals: Made::new(alloc),

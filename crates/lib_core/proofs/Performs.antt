@@ -16,7 +16,7 @@ use Rattle.machine_rules.specs.State.{World, Box}
 use Rattle.machine_rules.specs.Performing.{NativeResult, Returns, HeapFull, NoResult, performs, with_new, perform_change, perform_boxing, with_box, box_among, number_of, object_with}
 use Rattle.jvm_values.specs.Contents.{Contents, object_at, with_object, with_object_at, with_words}
 use Rattle.jvm_values.specs.declared.kept.KeptBox.{KeptBox}
-use Rattle.jvm_values.specs.declared.kept.Kept.{Kept}
+use Rattle.jvm_values.specs.declared.kept.KeptObjects.{KeptObjects}
 use Rattle.jvm_values.specs.declared.object.Object.{Object}
 use Rattle.lib_core.specs.declared.deed.Change.{Change}
 use Rattle.lib_core.specs.View.{object_of, objects_of, change_of, with_store, box_of}
@@ -104,7 +104,7 @@ twice_changed old grown out new at c words place before after g fits o there don
 }
 
 store_put :
-    (ns : List Name) (w : World) (kept : Kept) (heap : Contents) (x : ℕ) (o : Object) →
+    (ns : List Name) (w : World) (kept : KeptObjects) (heap : Contents) (x : ℕ) (o : Object) →
     with_store ns (with_object_at heap x o) kept w
     ≡ record (with_store ns heap kept w) {
       heap = def.with_object_at (objects_of ns heap.objects) x (object_of ns o);
@@ -114,7 +114,7 @@ store_put ns w kept heap (suc n) o =
     ap (λ (h : List def.Object). record (with_store ns heap kept w) { heap = h })
     (map-set (object_of ns) heap.objects n o)
 
-module _ (ns : List Name) (w : World) (kept : Kept) where
+module _ (ns : List Name) (w : World) (kept : KeptObjects) where
   -- the world behind a change
   target : Contents → ℕ → ℕ → Option Value → def.Object → NativeResult
   target old at words v o =

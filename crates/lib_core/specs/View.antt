@@ -14,7 +14,7 @@ use Rattle.jvm_values.specs.declared.object.ObjKind.{ObjKind}
 use Rattle.jvm_values.specs.declared.object.ObjKind.TheVariants as kind
 use Rattle.jvm_values.specs.declared.object.Object.{Object}
 use Rattle.jvm_values.specs.declared.kept.KeptBox.{KeptBox}
-use Rattle.jvm_values.specs.declared.kept.Kept.{Kept}
+use Rattle.jvm_values.specs.declared.kept.KeptObjects.{KeptObjects}
 use Rattle.jvm_values.specs.Contents.{Contents}
 use Rattle.lib_core.specs.declared.performing.NativeEnd.{NativeEnd}
 use Rattle.lib_core.specs.declared.performing.NativeEnd.TheVariants as end
@@ -88,7 +88,7 @@ abbrev pub box_of : KeptBox → state.Box
 box_of b = record { class = b.class; number = b.number; object = b.object }
 
 -- The world with the objects of this heap and these kept boxes.
-abbrev pub with_store : List Name → Contents → Kept → state.World → state.World
+abbrev pub with_store : List Name → Contents → KeptObjects → state.World → state.World
 with_store ns heap kept w = record w {
   heap = objects_of ns heap.objects;
   used = heap.used;

@@ -6,7 +6,7 @@ ghost use Rattle.program_rules.specs.Names.{Name as Text};
 ghost use Rattle.machine_rules.specs.Performing.{object_with, box_among, number_of, char_value, char_array};
 ghost use Rattle.jvm_values.specs.Contents.{object_at, fits_with, with_object_at};
 ghost use Rattle.lib_core.specs.Performed.{OnFull, IsPassed, IsChanged, IsObject, IsAdded, DoesAlone, IsRefusedAlone, Does, IsRefused, StaysFor};
-ghost use Rattle.jvm_values.specs.declared.kept.Kept.{Kept as StoredBoxes};
+ghost use Rattle.jvm_values.specs.declared.kept.KeptObjects.{KeptObjects as StoredBoxes};
 ghost use Rattle.lib_core.specs.Slots.{HasMore, ChangesFew, AddsFew, DoesFew};
 ghost use Rattle.lib_core.specs.View.{object_of, change_of, deed_of, box_of};
 
@@ -14,7 +14,7 @@ use crate::changing::change_object;
 use crate::deed::{Change, Deed};
 use crate::known::Known;
 use class_model::{Kind, Memory, Name, Seq};
-use jvm_values::{Heap, HeapFault, Kept, KeptBox, ObjKind, Object};
+use jvm_values::{Heap, HeapFault, KeptBox, KeptObjects, ObjKind, Object};
 use program_rules::{Fault, Making, Value};
 use std::alloc::Global;
 
@@ -204,7 +204,7 @@ fn give_box(
     alloc: Global,
     known: &Known,
     heap: &mut Heap,
-    kept: &mut Kept,
+    kept: &mut KeptObjects,
     making: Making,
     v: Value,
 ) -> Result<u32, HeapFault>
@@ -277,7 +277,7 @@ pub fn perform(
     alloc: Global,
     known: &Known,
     heap: &mut Heap,
-    kept: &mut Kept,
+    kept: &mut KeptObjects,
     deed: Deed,
 ) -> Result<NativeEnd, HeapFault>
     ensures done { IfOk result (λ e.

@@ -5,7 +5,7 @@ use crate::arguments::{Named, arguments, number_of};
 use crate::classes::{CLASS_NAMES, KNOWN};
 use crate::ends::{push, push_end, push_list};
 use class_model::{Memory, Name};
-use jvm_values::{Heap, HeapFault, Kept, Object};
+use jvm_values::{Heap, HeapFault, KeptObjects, Object};
 use lib_core::{Deed, NativeEnd, perform, units_of};
 use lib_junit::junit_deed;
 use lib_lang::lang_deed;
@@ -56,7 +56,7 @@ fn called(
     alloc: Global,
     names: &[Name],
     heap: &mut Heap,
-    kept: &mut Kept,
+    kept: &mut KeptObjects,
     native: Native,
     args: &[Value],
 ) -> Result<NativeEnd, HeapFault> {
@@ -68,7 +68,7 @@ fn called(
 fn push_called(
     names: &[Name],
     heap: &mut Heap,
-    kept: &mut Kept,
+    kept: &mut KeptObjects,
     named: &mut Named,
     native: Native,
     args: &[Value],
@@ -84,7 +84,7 @@ fn push_called(
 fn push_call(
     names: &[Name],
     heap: &mut Heap,
-    kept: &mut Kept,
+    kept: &mut KeptObjects,
     named: &mut Named,
     call: &str,
     out: &mut String,
@@ -101,7 +101,7 @@ fn push_call(
 fn push_calls(
     names: &[Name],
     heap: &mut Heap,
-    kept: &mut Kept,
+    kept: &mut KeptObjects,
     line: &str,
     out: &mut String,
 ) -> anyhow::Result<()> {
@@ -120,7 +120,7 @@ fn push_calls(
 fn push_line(names: &[Name], line: &str, out: &mut String) -> anyhow::Result<()> {
     let alloc = *out.allocator();
     let mut heap = Heap::new(alloc, 10_000);
-    let mut kept = Kept::new(alloc);
+    let mut kept = KeptObjects::new(alloc);
     push_calls(names, &mut heap, &mut kept, line, out)
 }
 

@@ -1,7 +1,7 @@
 // The heap: the words that objects take, their slots, and what is kept.
 
 use class_model::{ClassId, Kind, Name, Seq};
-use jvm_values::{Heap, HeapFault, Kept, ObjKind, Object};
+use jvm_values::{Heap, HeapFault, KeptObjects, ObjKind, Object};
 use program_rules::Value;
 use std::test::Fail;
 
@@ -77,7 +77,7 @@ fn objects_are_exchanged(rt: HostRuntime) -> Result<(), Fail> {
 
 #[test]
 fn nothing_is_kept_at_first(rt: HostRuntime) -> Result<(), Fail> {
-    let kept = Kept::new(rt.alloc());
+    let kept = KeptObjects::new(rt.alloc());
     assert!(rt; kept.texts.is_empty());
     assert!(rt; kept.classes.is_empty());
     assert!(rt; kept.boxes.is_empty());

@@ -12,7 +12,7 @@ ghost use Rattle.mt_pool.specs.Indices.{required, desc_fault_at, desc_verdict, m
 
 use crate::named::{entry_of, names_class, pair_of};
 use crate::size::size;
-use class_model::{CheckedPool, ClassFault, Const, DescFault, Name, Verdict};
+use class_model::{CheckedPool, ClassFault, Const, DescFault, Name, TextVerdict};
 use std::alloc::Global;
 
 const ARRAY: u16 = b'[' as u16;
@@ -55,7 +55,7 @@ fn check_method_text(
 }
 
 // The text has to be a field's or a method's descriptor.
-fn check_member_text(at: u64, desc: &Name, verdict: Verdict) -> Result<(), ClassFault>
+fn check_member_text(at: u64, desc: &Name, verdict: TextVerdict) -> Result<(), ClassFault>
     requires { verdict ≡ verdict_of desc.now }
     ensures { Gives fault.Memory (λ u. u) (member_text_fault at desc.now) result }
 {
@@ -67,7 +67,7 @@ fn check_member_text(at: u64, desc: &Name, verdict: Verdict) -> Result<(), Class
 }
 
 // A class's name that begins with `[` has to be an array's descriptor.
-fn check_class_text(at: u64, name: &Name, verdict: Verdict) -> Result<(), ClassFault>
+fn check_class_text(at: u64, name: &Name, verdict: TextVerdict) -> Result<(), ClassFault>
     requires { verdict ≡ verdict_of name.now }
     ensures { Gives fault.Memory (λ u. u) (class_text_fault at name.now) result }
 {

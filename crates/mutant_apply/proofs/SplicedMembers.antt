@@ -16,7 +16,7 @@ use Rattle.class_writer.specs.Writing.{HasMemberForm, HasClassForm}
 use Rattle.mutant_apply.specs.Edited.{with_code, member_with, changed_at, class_with}
 use Rattle.mutant_apply.specs.declared.parts.Parts.{Parts}
 use Rattle.mutant_apply.proofs.Lists.{all_at}
-use Rattle.mutant_apply.specs.declared.places.Place.{Place}
+use Rattle.mutant_apply.specs.declared.places.AttrsPlace.{AttrsPlace}
 use Rattle.mutant_apply.specs.Places.{head_bytes, place_at, places_from}
 
 pub grouped : (a b c : List ℕ) → a ++ (b ++ c) ≡ a ++ b ++ c
@@ -33,7 +33,7 @@ member_length : (m : Member) → length (member_bytes m) ≡ length (head_bytes 
 member_length m = ap length (whole (to_be_bytes w16 m.flags) (to_be_bytes w16 m.name) (to_be_bytes w16 m.desc) (attrs_bytes m.attrs)) ∙ length-append (head_bytes m) (attrs_bytes m.attrs)
 
 -- the attributes of one method, with what stands before and behind them, and where
-abbrev pub place_behind : ℕ → List ℕ → Member → Place
+abbrev pub place_behind : ℕ → List ℕ → Member → AttrsPlace
 place_behind at before member = record { start = at + length before; end = at + length before + length (attrs_bytes member.attrs) }
 
 pub record IsParted (code : Code) (member : Member) (at : ℕ) (members : List Member) (k : ℕ) : Type 0 where

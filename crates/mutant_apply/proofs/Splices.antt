@@ -24,7 +24,7 @@ use Rattle.class_reader.specs.Spells.{member_bytes, counted_bytes, class_bytes}
 use Rattle.class_writer.specs.Writing.{pool_bound, class_bound, layout}
 use Rattle.mutant_apply.specs.Edited.{with_code, member_with, changed_at, class_with}
 use Rattle.mutant_apply.specs.declared.parts.Parts.{Parts}
-use Rattle.mutant_apply.specs.declared.places.Place.{Place}
+use Rattle.mutant_apply.specs.declared.places.AttrsPlace.{AttrsPlace}
 use Rattle.mutant_apply.specs.Places.{version_bytes, middle_bytes, places_from, pool_end, places_of}
 use Rattle.mutant_apply.specs.Spliced.{between, spliced, AreOrdered, pool_count, spliced_layout}
 use Rattle.mutant_apply.specs.BytesLaws.{LayoutIsSpliced}
@@ -40,7 +40,7 @@ module _ (h c e w p q : List ℕ) (eight : length h ≡ 8) (two : length c ≡ 2
   abbrev bytes : List ℕ
   bytes = h ++ (c ++ (e ++ (w ++ (p ++ q))))
 
-  abbrev place : Place
+  abbrev place : AttrsPlace
   place = record { start = length (front ++ w); end = length (front ++ w) + length p }
 
   at_pool : bytes ≡ front ++ (w ++ (p ++ q))
@@ -152,13 +152,13 @@ two_bytes class = refl
 start_is : (f m b : List ℕ) → length (f ++ m) + length b ≡ length (f ++ (m ++ b))
 start_is f m b = omega (arith, length-append f m, length-append m b, length-append f (m ++ b))
 
-abbrev stands : (class : Class) (edit : Edit) (parts : Parts) (member : Member) → Parting class edit parts member → Place
+abbrev stands : (class : Class) (edit : Edit) (parts : Parts) (member : Member) → Parting class edit parts member → AttrsPlace
 stands class edit parts member s = record {
   start = length ((version_bytes class ++ pool_bytes class.pool) ++ (middle_bytes class ++ s.before));
   end = length ((version_bytes class ++ pool_bytes class.pool) ++ (middle_bytes class ++ s.before)) + length (attrs_bytes member.attrs);
 }
 
-placed_is : (class : Class) (edit : Edit) (parts : Parts) (member : Member) (s : Parting class edit parts member) (found : Place) → slice_get (places_of class).methods edit.method ≡ Some found
+placed_is : (class : Class) (edit : Edit) (parts : Parts) (member : Member) (s : Parting class edit parts member) (found : AttrsPlace) → slice_get (places_of class).methods edit.method ≡ Some found
     → found ≡ stands class edit parts member s
 placed_is class edit parts member s found e =
     let both : Some found ≡ Some (place_behind (methods_at class) s.before member) = sym e ∙ s.place in
@@ -167,16 +167,16 @@ placed_is class edit parts member s found e =
 
 -- ---- the law
 
-pub ordered_places : (class : Class) (bytes : List ℕ) (edit : Edit) (parts : Parts) (member : Member) (found : Place) → layout class ≡ Ok bytes → slice_get class.methods edit.method ≡ Some member
+pub ordered_places : (class : Class) (bytes : List ℕ) (edit : Edit) (parts : Parts) (member : Member) (found : AttrsPlace) → layout class ≡ Ok bytes → slice_get class.methods edit.method ≡ Some member
     → slice_get (places_of class).methods edit.method ≡ Some found → AreOrdered (pool_end class) found bytes
 ordered_places class bytes edit parts member found laid there placed =
     let s = parts_of_members parts.code member class.methods edit.method (methods_at class) there in
     let is : class_bytes class ≡ bytes = (laid_out (class_bound class) (class_bytes class) bytes laid).1 in
     let known = ordered (version_bytes class) (count_of class) (entries_of class) (middle_bytes class ++ s.before) (attrs_bytes member.attrs) (s.behind ++ attrs_bytes class.attrs) (eight_bytes class) (two_bytes class) in
-    subst (λ (f : Place). AreOrdered (pool_end class) f bytes) (sym (placed_is class edit parts member s found placed))
+    subst (λ (f : AttrsPlace). AreOrdered (pool_end class) f bytes) (sym (placed_is class edit parts member s found placed))
     (subst (λ (z : List ℕ). AreOrdered (pool_end class) (stands class edit parts member s) z) (sym (old_is class edit parts member s) ∙ is) known)
 
-bytes_spliced : (class : Class) (bytes : List ℕ) (edit : Edit) (parts : Parts) (member : Member) (found : Place) → class_bytes class ≡ bytes → slice_get class.methods edit.method ≡ Some member
+bytes_spliced : (class : Class) (bytes : List ℕ) (edit : Edit) (parts : Parts) (member : Member) (found : AttrsPlace) → class_bytes class ≡ bytes → slice_get class.methods edit.method ≡ Some member
     → slice_get (places_of class).methods edit.method ≡ Some found
     → class_bytes (class_with edit class parts) ≡ spliced (pool_end class) found bytes (to_be_bytes w16 (length class.pool + length parts.added + 1)) (drop 2 (pool_bytes parts.added)) (attrs_bytes (with_code parts.code member.attrs))
 bytes_spliced class bytes edit parts member found is there placed =
@@ -187,7 +187,7 @@ bytes_spliced class bytes edit parts member found is there placed =
     let known = spliced_is (version_bytes class) (count_of class) (entries_of class) (middle_bytes class ++ s.before) (attrs_bytes member.attrs) (s.behind ++ attrs_bytes class.attrs) (eight_bytes class) (two_bytes class) n added new in
     new_is class edit parts member s ∙ sym known
     ∙ ap (λ (z : List ℕ). spliced (pool_end class) (stands class edit parts member s) z n added new) (sym (old_is class edit parts member s) ∙ is)
-    ∙ ap (λ (f : Place). spliced (pool_end class) f bytes n added new) (sym (placed_is class edit parts member s found placed))
+    ∙ ap (λ (f : AttrsPlace). spliced (pool_end class) f bytes n added new) (sym (placed_is class edit parts member s found placed))
 
 pub layout_spliced : LayoutIsSpliced
 layout_spliced class bytes edit parts member found laid there placed =

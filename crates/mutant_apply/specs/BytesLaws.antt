@@ -7,7 +7,7 @@ use Rattle.class_model.specs.declared.edit.Edit.{Edit}
 use Rattle.class_writer.specs.Writing.{layout}
 use Rattle.mutant_apply.specs.Edited.{class_with, applied}
 use Rattle.mutant_apply.specs.declared.parts.Parts.{Parts}
-use Rattle.mutant_apply.specs.declared.places.Place.{Place}
+use Rattle.mutant_apply.specs.declared.places.AttrsPlace.{AttrsPlace}
 use Rattle.mutant_apply.specs.Places.{pool_end, places_of}
 use Rattle.mutant_apply.specs.Spliced.{spliced_layout, parts_and_bytes}
 
@@ -15,7 +15,7 @@ use Rattle.mutant_apply.specs.Spliced.{spliced_layout, parts_and_bytes}
 abbrev pub LayoutIsSpliced : Type 0
 LayoutIsSpliced =
     (class : Class) (bytes : List ℕ) (edit : Edit) (parts : Parts) (member : Member)
-    (place : Place) → layout class ≡ Ok bytes
+    (place : AttrsPlace) → layout class ≡ Ok bytes
     → slice_get class.methods edit.method ≡ Some member →
     slice_get (places_of class).methods edit.method ≡ Some place
     → layout (class_with edit class parts) ≡

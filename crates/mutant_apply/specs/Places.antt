@@ -8,7 +8,7 @@ use Rattle.mt_pool.specs.Spelling.{pool_bytes}
 use Rattle.mt_attrs.specs.Attributes.{attrs_bytes}
 use Rattle.class_reader.specs.Reading.{magic}
 use Rattle.class_reader.specs.Spells.{member_bytes, counted_bytes}
-use Rattle.mutant_apply.specs.declared.places.Place.{Place}
+use Rattle.mutant_apply.specs.declared.places.AttrsPlace.{AttrsPlace}
 use Rattle.mutant_apply.specs.declared.places.Places.{Places}
 
 -- What stands in front of the constant pool: the magic number and the version.
@@ -37,7 +37,7 @@ head_bytes member =
     to_be_bytes w16 member.flags ++ (to_be_bytes w16 member.name ++ to_be_bytes w16 member.desc)
 
 -- The attributes of a method that begins here, from their count on.
-abbrev pub place_at : ℕ → Member → Place
+abbrev pub place_at : ℕ → Member → AttrsPlace
 place_at at member =
     record {
       start = at + length (head_bytes member);
@@ -45,7 +45,7 @@ place_at at member =
     }
 
 -- The attributes of each method, the first of which begins here.
-abbrev pub places_from : ℕ → List Member → List Place
+abbrev pub places_from : ℕ → List Member → List AttrsPlace
 places_from at [] = []
 places_from at (member ∷ members) =
     place_at at member ∷ places_from (place_at at member).end members

@@ -17,7 +17,7 @@ use Rattle.mt_attrs.specs.Layout.{attrs_layout}
 use Rattle.class_writer.specs.Writing.{layout}
 use Rattle.mutant_apply.specs.Edited.{with_code, class_with, edited_parts}
 use Rattle.mutant_apply.specs.declared.parts.Parts.{Parts}
-use Rattle.mutant_apply.specs.declared.places.Place.{Place}
+use Rattle.mutant_apply.specs.declared.places.AttrsPlace.{AttrsPlace}
 
 -- The call gave these bytes, or told the bound that is passed first.
 abbrev pub GivesBytes : Result (List ℕ) LayoutFault → Result (List ℕ) LayoutFault → Type 0
@@ -28,7 +28,7 @@ abbrev pub between : ℕ → ℕ → List ℕ → List ℕ
 between from to bytes = drop from (take to bytes)
 
 -- The magic number and the version are eight bytes, the pool's count is two.
-abbrev pub spliced : ℕ → Place → List ℕ → List ℕ → List ℕ → List ℕ → List ℕ
+abbrev pub spliced : ℕ → AttrsPlace → List ℕ → List ℕ → List ℕ → List ℕ → List ℕ
 spliced pool_end place bytes count added attrs =
     take 8 bytes
     ++ (count
@@ -39,7 +39,7 @@ spliced pool_end place bytes count added attrs =
     ++ drop place.end bytes)))))
 
 -- The places stand in this order in the bytes.
-pub record AreOrdered (pool_end : ℕ) (place : Place) (bytes : List ℕ) : Type 0 where
+pub record AreOrdered (pool_end : ℕ) (place : AttrsPlace) (bytes : List ℕ) : Type 0 where
   pub count : 10 ≤ pool_end
   pub start : pool_end ≤ place.start
   pub end : place.start ≤ place.end
@@ -54,7 +54,7 @@ pool_count old added =
 -- The bytes of a class with these parts, by those of the class, or the bound that is passed first.
 -- The count of the added entries, which stands in front of them, is left out.
 abbrev pub spliced_layout :
-    ℕ → Place → List ℕ → List Const → Parts → Member → Result (List ℕ) LayoutFault
+    ℕ → AttrsPlace → List ℕ → List Const → Parts → Member → Result (List ℕ) LayoutFault
 spliced_layout pool_end place bytes pool parts member =
     pool_count (length pool) (length parts.added) >>= λ count.
     pool_layout parts.added >>= λ added.

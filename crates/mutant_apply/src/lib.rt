@@ -23,7 +23,7 @@ pub use laws::{applied_is_made, edit_keeps_form, mutants_fit};
 pub use members::with_code;
 pub use parts::Parts;
 pub use place_map::{PlaceMap, moved_row};
-pub use places::{Place, Places};
+pub use places::{AttrsPlace, Places};
 pub use refusal::Refusal;
 pub use spelled_laws::{
     apply_laws_are_of_use, edits_are_spelled, mutants_are_spelled, what_is_spelled_is_named,

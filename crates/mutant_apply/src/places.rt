@@ -21,7 +21,7 @@ const MAGIC: u32 = 0xCAFE_BABE;
 /// Where the attributes of a method stand, from their count on, and what stands behind them:
 /// offsets in bytes.
 #[derive(Clone, Copy)]
-pub struct Place {
+pub struct AttrsPlace {
     pub start: usize,
     pub end: usize,
 }
@@ -31,7 +31,7 @@ pub struct Place {
 #[derive(Drop)]
 pub struct Places {
     pub pool_end: usize,
-    pub methods: Seq<Place>,
+    pub methods: Seq<AttrsPlace>,
 }
 
 fn put_version(out: &mut Bytes, class: &Class) -> Result<(), Memory>
@@ -68,7 +68,7 @@ fn put_head(out: &mut Bytes, member: &Member) -> Result<(), Memory>
 }
 
 // Adds a member at the end, and tells where its attributes stand.
-fn put_member(out: &mut Bytes, member: &Member) -> Result<Place, LayoutFault>
+fn put_member(out: &mut Bytes, member: &Member) -> Result<AttrsPlace, LayoutFault>
     requires { HasMemberForm member.now }
     ensures bytes { OnOk result (out.new ≡ out.old ++ member_bytes member.now) }
     ensures place { IfOk result (λ place. place ≡ place_at (length out.old) member.now) }
@@ -78,10 +78,10 @@ fn put_member(out: &mut Bytes, member: &Member) -> Result<Place, LayoutFault>
     let start = out.len();
     write_attrs(&member.attrs, out)?;
     let end = out.len();
-    Ok(Place { start, end })
+    Ok(AttrsPlace { start, end })
 }
 
-fn put_each(out: &mut Bytes, members: &[Member]) -> Result<Seq<Place>, LayoutFault>
+fn put_each(out: &mut Bytes, members: &[Member]) -> Result<Seq<AttrsPlace>, LayoutFault>
     requires { All HasMemberForm members.now }
     ensures bytes { OnOk result (out.new ≡ out.old ++ flat_map member_bytes members.now) }
     ensures places { IfOk result (λ places. places ≡ places_from (length out.old) members.now) }

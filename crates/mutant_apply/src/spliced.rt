@@ -12,7 +12,7 @@ ghost use Rattle.mutant_apply.specs.Fitting.{Fits};
 ghost use Rattle.mutant_apply.specs.Places.{places_of};
 ghost use Rattle.mutant_apply.specs.Spliced.{GivesBytes, spliced, AreOrdered, pool_count, spliced_layout, parts_and_bytes};
 
-use crate::places::{Place, Places};
+use crate::places::{AttrsPlace, Places};
 use crate::{Parts, edited_parts, with_code};
 use class_model::{Attr, Bound, Bytes, Class, Code, Const, Edit, LayoutFault, Member, Memory, Seq};
 use mt_attrs::write_attrs;
@@ -57,7 +57,7 @@ fn attrs_with(alloc: Global, code: &Code, attrs: &Seq<Attr>) -> Result<Bytes, La
 fn splice(
     out: &mut Bytes,
     pool_end: usize,
-    place: Place,
+    place: AttrsPlace,
     bytes: &[u8],
     count: u16,
     added: &[u8],
@@ -83,7 +83,7 @@ fn splice(
 fn splice_parts(
     alloc: Global,
     pool_end: usize,
-    place: Place,
+    place: AttrsPlace,
     bytes: &[u8],
     pool: &Seq<Const>,
     parts: &Parts,

@@ -30,13 +30,13 @@ use Rattle.lib_core.specs.contracts.known.Known as Known
 use Rattle.run_records.specs.Below.jvm_natives_contracts_natives_Natives as Natives
 use Rattle.jvm_world.specs.contracts.classes.MachineClasses as MachineClasses
 use Rattle.jvm_state.specs.contracts.op.Op as Op
-use Rattle.jvm_code.specs.contracts.decoding.Code as OpCode
+use Rattle.jvm_code.specs.contracts.decoding.DecodedCode as OpCode
 use Rattle.run_records.specs.Below.jvm_unwind_contracts_row_Catch as Catch
 use Rattle.run_records.specs.Below.jvm_unwind_contracts_row_CatchRow as CatchRow
 use Rattle.run_records.specs.Below.jvm_unwind_contracts_unwinding_Handlers as Handlers
 use Rattle.run_records.specs.Below.jvm_act_contracts_methods_MethodCode as MethodCode
 use Rattle.run_records.specs.Below.jvm_act_contracts_codes_Codes as Codes
-use Rattle.mutant_apply.specs.contracts.places.Place as Place
+use Rattle.mutant_apply.specs.contracts.places.AttrsPlace as AttrsPlace
 use Rattle.mutant_apply.specs.contracts.places.Places as Places
 
 pub held_send : (T : RattleType) → IsSend T → IsSend (Held.the_row T)
@@ -987,17 +987,17 @@ codes_send = search (method_code_fields_send, method_code_send, sendable, crosse
 pub codes_sync : IsSync Codes.the_row
 codes_sync = search (method_code_fields_sync, method_code_sync, sendable, crosses) depth 60 fits 60000
 
-pub place_fields_send : IsSend (Place.the_field).row
+pub place_fields_send : IsSend (AttrsPlace.the_field).row
 place_fields_send = search (sendable, crosses) depth 60 fits 60000
 
-pub place_send : IsSend Place.the_row
-place_send = recorded_send _ _ _ (Place.the_type).to_one place_fields_send
+pub place_send : IsSend AttrsPlace.the_row
+place_send = recorded_send _ _ _ (AttrsPlace.the_type).to_one place_fields_send
 
-pub place_fields_sync : IsSync (Place.the_field).row
+pub place_fields_sync : IsSync (AttrsPlace.the_field).row
 place_fields_sync = search (sendable, crosses) depth 60 fits 60000
 
-pub place_sync : IsSync Place.the_row
-place_sync = recorded_sync _ _ _ (Place.the_type).to_one place_fields_sync
+pub place_sync : IsSync AttrsPlace.the_row
+place_sync = recorded_sync _ _ _ (AttrsPlace.the_type).to_one place_fields_sync
 
 pub places_fields_send : IsSend (Places.the_field).row
 places_fields_send = search (seq_send, place_fields_send, place_send, sendable, crosses) depth 60 fits 60000
