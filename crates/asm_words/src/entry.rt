@@ -1,7 +1,6 @@
 //! What an operand names: constants, classes, fields and methods.
 
 ghost use Rattle.std.specs.Prelude.{◌≡◌, ◌+◌, Some, sum_by, IfOk};
-ghost use Rattle.class_model.specs.TextVerdicts.{words};
 ghost use Rattle.class_model.specs.DescriptorReading.{field_kind, method_kinds};
 ghost use Rattle.std.specs.Result.{is_ok};
 ghost use Rattle.asm_words.specs.Entries.{is_class_entry, is_result_desc, member_name, call_words, call_words_of};

@@ -1,6 +1,6 @@
 //! A constant pool whose texts are looked at once each, however many indices use them.
 
-ghost use Rattle.std.specs.Prelude.{◌≡◌, ◌+◌, ◌*◌, ◌≤◌, [], length, sum_by, IfOk, MatchOption, None, Some};
+ghost use Rattle.std.specs.Prelude.{◌≡◌, ◌+◌, ◌*◌, [], length, sum_by, IfOk, MatchOption, None, Some};
 ghost use Rattle.std.specs.Option.{option_copied};
 ghost use Rattle.class_model.specs.DescriptorReading.{field_kind, method_kinds};
 ghost use Rattle.class_model.specs.TextVerdicts.{outcome, words, arg_words, verdict_of, units_in, verdicts_of};

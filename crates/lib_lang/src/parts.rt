@@ -1,6 +1,6 @@
 //! `java/lang/String`: parts of texts, and the search in them.
 
-ghost use Rattle.std.specs.Prelude.{◌≡◌, ◌+◌, ◌-◌, ◌<◌, ◌≤◌, ◌^◌, List, [], ◌++◌, Some, None, length, take, drop, nat_eq, IfOk, IfSome};
+ghost use Rattle.std.specs.Prelude.{◌≡◌, ◌+◌, ◌-◌, ◌<◌, ◌≤◌, ◌^◌, List, [], Some, None, length, take, drop, nat_eq, IfOk, IfSome};
 ghost use Rattle.std.specs.List.{starts_with, ends_with};
 ghost use Rattle.std.specs.Option.{option_map};
 ghost use Rattle.library_rules.specs.Arguments.{place_of};

@@ -1,8 +1,8 @@
 //! How many bytes entries have.
 
-ghost use Rattle.std.specs.Prelude.{◌≡◌, ◌<◌, ◌≤◌, ◌^◌, length};
+ghost use Rattle.std.specs.Prelude.{◌≡◌, ◌<◌, ◌^◌, length};
 ghost use Rattle.std.specs.List.{list_all};
-ghost use Rattle.class_model.specs.Text.{text, unit_bytes};
+ghost use Rattle.class_model.specs.Text.{text};
 ghost use Rattle.mt_pool.specs.Spelling.{entry_bytes};
 ghost use Rattle.mt_pool.specs.Whole.{has_text_size};
 

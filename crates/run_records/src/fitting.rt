@@ -1,7 +1,7 @@
 //! Whether a record fits the fields of a history.
 
-ghost use Rattle.std.specs.Prelude.{◌≡◌, ◌≤◌, ◌<◌, ◌^◌, ◌↔◌, All, length, IsTrue};
-ghost use Rattle.class_model.specs.Text.{text, unit_bytes};
+ghost use Rattle.std.specs.Prelude.{◌≡◌, ◌<◌, ◌^◌, ◌↔◌, All, length, IsTrue};
+ghost use Rattle.class_model.specs.Text.{text};
 ghost use Rattle.history_rules.specs.Items.{IsText};
 ghost use Rattle.history_rules.specs.Reading.{is_high, is_low, is_paired};
 ghost use Rattle.history_rules.specs.Fitting.{FitsEntry, FitsFields, FitsPair};

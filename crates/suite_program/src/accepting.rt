@@ -1,9 +1,7 @@
 //! Whether the code of a program is accepted.
 
-ghost use Rattle.std.specs.Prelude.{◌≡◌, ◌++◌, ◌<◌, length, None, IfOk, OnOk};
-ghost use Rattle.class_table.specs.Table.{look, name_at};
-ghost use Rattle.machine_rules.specs.Steps.{method_text};
-ghost use Rattle.program_rules.specs.Linked.{method_in};
+ghost use Rattle.std.specs.Prelude.{◌≡◌, ◌<◌, length, None, IfOk, OnOk};
+ghost use Rattle.class_table.specs.Table.{look};
 ghost use Rattle.type_verifier.specs.Programs.{AreNumbered, IsLibraryAccepted, IsFirstRefused};
 ghost use Rattle.type_verifier.specs.declared.end.VerifyEnd.TheVariants as verdict;
 ghost use Rattle.type_verifier.specs.declared.end.VerifyFault.{VerifyFault};

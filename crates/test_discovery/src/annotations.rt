@@ -2,7 +2,6 @@
 
 ghost use Rattle.std.specs.Prelude.{◌≡◌, IfOk};
 ghost use Rattle.std.specs.List.{list_any};
-ghost use Rattle.program_rules.specs.Names.{same};
 ghost use Rattle.test_discovery.specs.Notes.{names_text};
 ghost use Rattle.test_discovery.specs.Annotations.{ignored_types, runner_types, is_one_of};
 ghost use Rattle.test_discovery.specs.Annotations.{has_one_of, has_any, marks_of};

@@ -1,8 +1,8 @@
 //! What the texts of a class's constant pool mean, each by its index: a text is looked up once,
 //! however many entries name it.
 
-ghost use Rattle.std.specs.Prelude.{◌≡◌, [], map, IfOk, OnOk};
-ghost use Rattle.program_rules.specs.Names.{same, is_array_name};
+ghost use Rattle.std.specs.Prelude.{◌≡◌, map, IfOk, OnOk};
+ghost use Rattle.program_rules.specs.Names.{same};
 ghost use Rattle.type_rules.specs.References.{array_of};
 ghost use Rattle.type_rules.specs.Rows.{declares};
 ghost use Rattle.class_link.specs.View.{field_of};

@@ -1,6 +1,6 @@
 //! Hands that look runs up in rows.
 
-ghost use Rattle.std.specs.Prelude.{◌≡◌, ◌<◌, ◌+◌, ◌^◌};
+ghost use Rattle.std.specs.Prelude.{◌≡◌, ◌<◌};
 ghost use Rattle.worker_checks.specs.Rows.{job_of, record_at, row_reading};
 
 use crate::rows::{Row, RowHands, RowRecord};
