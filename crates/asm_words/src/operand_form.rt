@@ -35,6 +35,7 @@ fn usable(form: Form) -> Option<OperandForm>
 {
     match form {
         Form::Plain => Some(OperandForm::Plain),
+        Form::Float | Form::FloatLocal => None,
         Form::SmallNumber => Some(OperandForm::SmallNumber),
         Form::Number => Some(OperandForm::Number),
         Form::SmallConstant => Some(OperandForm::SmallConstant),
@@ -49,10 +50,10 @@ fn usable(form: Form) -> Option<OperandForm>
         Form::Method => Some(OperandForm::Method),
         Form::AnyMethod => Some(OperandForm::AnyMethod),
         Form::Interface => Some(OperandForm::Interface),
+        Form::Dynamic => None,
         Form::Class => Some(OperandForm::Class),
         Form::Array => Some(OperandForm::Array),
         Form::Dimensions => Some(OperandForm::Dimensions),
-        Form::Float | Form::FloatLocal | Form::Dynamic => None,
     }
 }
 

@@ -3,4 +3,4 @@ mod ProgramLaws
 mod Lists
 pub mod Listed
 mod Among
-mod Codes
+pub mod Codes

@@ -29,6 +29,7 @@ use Rattle.class_link.specs.Linking.{content_of, code_within, first_of, link}
 use Rattle.class_link.specs.Opcodes.{instruction_in}
 use Rattle.mt_attrs.specs.CodeParts.{attr_of, name_of, body_of}
 use Rattle.mutator_ops.specs.Mutants.{code_in, code_of}
+use Rattle.mutator_ops.proofs.Codes.{code_is_first, first_behind, first_here, within_is}
 use Rattle.mutant_apply.specs.Edited.{mover, edited_insns, code_with, has_code_room, edited_code, named_code, edited_parts, with_code, member_with, changed_at, class_with}
 use Rattle.mutant_apply.specs.Laws.{IsMade}
 use Rattle.mutant_apply.specs.Moved.{moved_arg, moved_insn, moved_row, moved_tables}
@@ -176,27 +177,11 @@ module _ (c : Class) (code : Code) (number at : ℕ) (old new : Insn) (more : �
 
 -- ---- attributes: both look for the first Code
 
-within_is : (b : Body-F Body Attr Code) → code_within b ≡ code_in b
-within_is (Body-F.Code code) = refl
-within_is other = refl
-
 out_code : (name : ℕ) (code : Code) → content_of (attr_of name (body.Code code)) ≡ Body-F.Code code
 out_code name code = search the_lemmas
 
-first_here : (a : Attr) (attrs : List Attr) (code : Code) → code_within (content_of a) ≡ Some code → first_of code_within (a ∷ attrs) ≡ Some code
-first_here a attrs code e = rw e refl
-
-first_behind : (a : Attr) (attrs : List Attr) → code_within (content_of a) ≡ None → first_of code_within (a ∷ attrs) ≡ first_of code_within attrs
-first_behind a attrs e = rw e refl
-
-code_case : (a : Attr) (attrs : List Attr) (code : Code) (o : Option Code) → code_in (body_of a) ≡ o → (code_of attrs ≡ Some code → first_of code_within attrs ≡ Some code)
-    → elim o [ Some code ↦ Some code | None ↦ code_of attrs ] ≡ Some code → first_of code_within (a ∷ attrs) ≡ Some code
-code_case a attrs code None e later is = first_behind a attrs (within_is (content_of a) ∙ e) ∙ later is
-code_case a attrs code (Some first) e later is = first_here a attrs first (within_is (content_of a) ∙ e) ∙ is
-
 pub first_code : (attrs : List Attr) (code : Code) → code_of attrs ≡ Some code → first_of code_within attrs ≡ Some code
-first_code [] code is = absurd cc
-first_code (a ∷ attrs) code is = code_case a attrs code (code_in (body_of a)) refl (first_code attrs code) is
+first_code attrs code is = code_is_first attrs ∙ is
 
 with_case : (new : Code) (a : Attr) (attrs : List Attr) (code : Code) (o : Option Code) → code_in (body_of a) ≡ o → (code_of attrs ≡ Some code → first_of code_within (with_code new attrs) ≡ Some new)
     → elim o [ Some code ↦ Some code | None ↦ code_of attrs ] ≡ Some code

@@ -1,6 +1,6 @@
 //! Hands that look runs up in rows.
 
-ghost use Rattle.std.specs.Prelude.{◌≡◌, ◌<◌};
+ghost use Rattle.std.specs.Prelude.{◌≡◌, ◌<◌, ◌+◌, ◌^◌};
 ghost use Rattle.worker_checks.specs.Rows.{job_of, record_at, row_reading};
 
 use crate::rows::{Row, RowHands, RowRecord};
@@ -22,6 +22,14 @@ fn record_at(rows: &[Row], mutant: u64, test: u64) -> Option<RowRecord>
             }
         }
     }
+}
+
+/// Counts so many steps.
+pub fn count(part: &mut MeterPart, steps: u32)
+    requires { part.old < 2 ^ 63 }
+    ensures { part.new ≡ part.old + steps }
+{
+    part.tick_all(u64::from(steps));
 }
 
 impl Hands for RowHands {
@@ -60,7 +68,7 @@ impl Hands for RowHands {
         match made {
             None => Err(Memory),
             Some(made) => {
-                part.tick_all(u64::from(made.steps));
+                count(part, made.steps);
                 Ok(made)
             }
         }

@@ -4,6 +4,7 @@
 ghost use Rattle.std.specs.Prelude.{◌≡◌};
 
 use crate::gates::HeldGate;
+use crate::hands::count;
 use crate::jobs::{RowEnds, do_rows};
 use mt_edge::{Meter, OpenGate};
 use std::test::Fail;
@@ -29,7 +30,7 @@ fn metered() -> Meter
 {
     let mut meter = Meter::new();
     let mut part = meter.split();
-    part.tick_all(u64::from(ORIGINAL));
+    count(&mut part, ORIGINAL);
     meter.join(part);
     meter
 }
