@@ -8,7 +8,7 @@ use Rattle.std.specs.Option.{option_map}
 use Rattle.std.proofs.Math.ListN.{length-map}
 use Rattle.class_model.specs.declared.instruction.Arg.{Arg}
 use Rattle.class_model.specs.declared.instruction.Arg.TheVariants as arg
-use Rattle.mt_insn.specs.Code.{keys_ascend}
+use Rattle.mt_insn.specs.Operands.{keys_ascend}
 use Rattle.asm_words.specs.Labels.{start_in}
 use Rattle.asm_words.specs.Numbers.{between}
 use Rattle.asm_words.specs.Operands.{increment_up_to, starts_in, has_room, table, pair_in, pairs_in, looked_up, lookup}

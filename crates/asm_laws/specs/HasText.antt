@@ -6,7 +6,7 @@ use Rattle.std.specs.Int.{w8, w16, w32, w64}
 use Rattle.std.specs.Result.{is_ok}
 use Rattle.class_model.specs.DescriptorReading.{field_kind, method_kinds}
 use Rattle.class_model.specs.declared.instruction.Arg.TheVariants as arg
-use Rattle.mt_insn.specs.Code.{keys_ascend}
+use Rattle.mt_insn.specs.Operands.{keys_ascend}
 use Rattle.asm_words.specs.Operands.{has_room, array_kind}
 use Rattle.asm_words.specs.Entries.{is_class_entry, call_words_of}
 use Rattle.asm_words.specs.Forms.{operand_form}

@@ -12,7 +12,8 @@ use Rattle.class_model.specs.declared.instruction.Arg.{Arg}
 use Rattle.class_model.specs.declared.instruction.Arg.TheVariants as arg
 use Rattle.mt_insn.specs.Opcode.{form_of}
 use Rattle.mt_insn.specs.Spelling.{highest}
-use Rattle.mt_insn.specs.Code.{IsArg, IsWideArg, IsFormedArg, HasForm, HasTargets, keys_ascend}
+use Rattle.mt_insn.specs.Code.{IsArg, IsWideArg, IsFormedArg, HasForm, HasTargets}
+use Rattle.mt_insn.specs.Operands.{keys_ascend}
 use Rattle.mt_insn.specs.Named.{is_array_kind}
 use Rattle.mt_insn.specs.declared.opcode.Form.{Form}
 use Rattle.mt_insn.specs.declared.opcode.Form.TheVariants as form

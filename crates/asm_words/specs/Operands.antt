@@ -6,7 +6,7 @@ use Rattle.std.specs.Option.{option_map}
 use Rattle.class_model.specs.Parting.{parted_at}
 use Rattle.class_model.specs.declared.instruction.Arg.{Arg}
 use Rattle.class_model.specs.declared.instruction.Arg.TheVariants as arg
-use Rattle.mt_insn.specs.Code.{keys_ascend}
+use Rattle.mt_insn.specs.Operands.{keys_ascend}
 use Rattle.asm_words.specs.Words.{says}
 use Rattle.asm_words.specs.Numbers.{up_to, between}
 use Rattle.asm_words.specs.Labels.{start_in}

@@ -1,13 +1,13 @@
 //! Operands that name no entry of the constant pool.
 
 ghost use Rattle.std.specs.Prelude.{◌≡◌, length, IfOk};
-ghost use Rattle.mt_insn.specs.Code.{keys_rise_above, keys_ascend};
 ghost use Rattle.asm_words.specs.Operands.{small_number, number, local, increment, wide_local, wide_increment, jump, starts_in, has_room, table, pair_in, pairs_in, lookup, array_kind, array};
 
 use crate::labels::{Labels, start_in};
 use crate::number::{s1, s2, s4, u1, u2};
 use crate::word::{COLON, says};
 use class_model::{Arg, Memory, Name, Seq, parted_at};
+use mt_insn::keys_ascend;
 use std::alloc::Global;
 
 /// `bipush`.
@@ -153,29 +153,6 @@ fn pairs_in(
         }
     }
     Ok(Some(pairs))
-}
-
-/// Each key is above the one before, and the first is above this one.
-fn keys_rise_above(first: i32, pairs: &[(i32, u32)]) -> bool
-    ensures { result ≡ keys_rise_above first pairs.now }
-{
-    let mut key = first;
-    for pair in pairs {
-        if pair.0 <= key {
-            return false;
-        }
-        key = pair.0;
-    }
-    true
-}
-
-fn keys_ascend(pairs: &[(i32, u32)]) -> bool
-    ensures { result ≡ keys_ascend pairs.now }
-{
-    match pairs {
-        [] => true,
-        [first, rest @ ..] => keys_rise_above(first.0, rest),
-    }
 }
 
 /// `lookupswitch`.

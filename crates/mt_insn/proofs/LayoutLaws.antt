@@ -12,9 +12,9 @@ use Rattle.class_model.specs.declared.instruction.Arg.TheVariants as arg
 use Rattle.class_model.specs.declared.instruction.Insn.{Insn}
 use Rattle.codec_rules.specs.Spelling.{spelled_from}
 use Rattle.mt_insn.specs.Opcode.{form_of}
-use Rattle.mt_insn.specs.Operands.{rise_above, ascend}
+use Rattle.mt_insn.specs.Operands.{keys_rise_above, keys_ascend}
 use Rattle.mt_insn.specs.Spelling.{offset_in, low_in, offsets_in, pairs_in, highest, raw_bytes, IsPair, IsOperand, IsWideOperand, IsFormed, IsRaw}
-use Rattle.mt_insn.specs.Code.{size_at, end_from, code_length, places, offset, operand_of, raw_of, raws_from, code, HasTargets, IsCode, target_in, arg_low, arg_targets, arg_pairs, keys_rise_above, keys_ascend, IsArg, IsWideArg, IsFormedArg, HasForm, is_short, jump_fits, jumps_fit, layout, lookup_keys, HasNames, HasFormedNames, NamesRight, WrittenIsSpelled}
+use Rattle.mt_insn.specs.Code.{size_at, end_from, code_length, places, offset, operand_of, raw_of, raws_from, code, HasTargets, IsCode, target_in, arg_low, arg_targets, arg_pairs, IsArg, IsWideArg, IsFormedArg, HasForm, is_short, jump_fits, jumps_fit, layout, lookup_keys, HasNames, HasFormedNames, NamesRight, WrittenIsSpelled}
 use Rattle.mt_insn.specs.declared.opcode.Form.{Form}
 use Rattle.mt_insn.specs.declared.opcode.Form.TheVariants as form
 use Rattle.mt_insn.specs.declared.raw.Operand.{Operand}
@@ -78,11 +78,11 @@ keys_fit : (starts : List ℕ) (place : ℕ) (pairs : List (ℤ × ℕ)) → All
 keys_fit starts place [] q = tt
 keys_fit starts place (pair ∷ pairs) q = (q.0.0, keys_fit starts place pairs q.1)
 
-keys_rise : (starts : List ℕ) (place : ℕ) (key : ℤ) (pairs : List (ℤ × ℕ)) → rise_above key (offsets_of starts place pairs) ≡ keys_rise_above key pairs
+keys_rise : (starts : List ℕ) (place : ℕ) (key : ℤ) (pairs : List (ℤ × ℕ)) → keys_rise_above key (offsets_of starts place pairs) ≡ keys_rise_above key pairs
 keys_rise starts place key [] = refl
 keys_rise starts place key (pair ∷ pairs) = rw (keys_rise starts place pair.0 pairs) refl
 
-keys_are : (starts : List ℕ) (place : ℕ) (pairs : List (ℤ × ℕ)) → ascend (offsets_of starts place pairs) ≡ keys_ascend pairs
+keys_are : (starts : List ℕ) (place : ℕ) (pairs : List (ℤ × ℕ)) → keys_ascend (offsets_of starts place pairs) ≡ keys_ascend pairs
 keys_are starts place [] = refl
 keys_are starts place (pair ∷ pairs) = keys_rise starts place pair.0 pairs
 
@@ -116,7 +116,7 @@ arg_formed pool form.Table starts place a q =
 arg_formed pool form.Lookup starts place a q =
     let o = operand_of starts place a in
     let t = lookup_is starts place a (offset_in o) (pairs_in o) q.0 in
-    (t.0, keys_fit starts place (arg_pairs a) (subst (λ (ps : List (ℤ × ℤ)). AllByRecursion IsPair ps) (sym t.1) q.3), sym (keys_are starts place (arg_pairs a)) ∙ ap ascend t.1 ∙ q.4)
+    (t.0, keys_fit starts place (arg_pairs a) (subst (λ (ps : List (ℤ × ℤ)). AllByRecursion IsPair ps) (sym t.1) q.3), sym (keys_are starts place (arg_pairs a)) ∙ ap keys_ascend t.1 ∙ q.4)
 arg_formed pool form.Interface starts place a q = let r = kept (IsOperand pool form.Interface) starts place a _ q.0 q in (done_inj a _ r.0, r.1, r.2)
 arg_formed pool form.Array starts place a q = let r = kept (IsOperand pool form.Array) starts place a _ q.0 q in (done_inj a _ r.0, r.1, r.2)
 arg_formed pool form.Dimensions starts place a q = let r = kept (IsOperand pool form.Dimensions) starts place a _ q.0 q in (done_inj a _ r.0, r.1, r.2)

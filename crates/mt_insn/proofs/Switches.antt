@@ -17,7 +17,7 @@ use Rattle.codec_rules.proofs.Codec.{chain, made, made_tested, tested, renamed}
 use Rattle.codec_rules.proofs.Many.{many_flat}
 use Rattle.codec_rules.proofs.Skipped.{IsSkipped, skipped}
 use Rattle.mt_insn.specs.Item.{passes_end, s4_in, u4_in}
-use Rattle.mt_insn.specs.Operands.{padding, used_padding, is_used, padded, from_zero, key_count, table_items_at, table_at, pair_at, lookup_body_at, lookup_at, ascend, has_ascending_keys}
+use Rattle.mt_insn.specs.Operands.{padding, used_padding, is_used, padded, from_zero, key_count, table_items_at, table_at, pair_at, lookup_body_at, lookup_at, keys_ascend, has_ascending_keys}
 use Rattle.mt_insn.specs.Spelling.{offset_in, low_in, offsets_in, pairs_in, items_in, highest, s4, u4, pair_bytes, IsPair, padding_bytes, table_bytes, lookup_bytes, IsOperand}
 use Rattle.mt_insn.specs.declared.opcode.Form.TheVariants as form
 use Rattle.mt_insn.specs.declared.raw.Operand.{Operand}
@@ -154,7 +154,7 @@ lookup_body_codec at =
 padded_lookup : (base at : ℕ) → IsCodecAt (padded base at (lookup_body_at at)) (λ place o. padding_bytes place ++ lookup_bytes o) IsLookup
 padded_lookup base at = skipped (passes_end at) padding padding_bytes (λ place bytes. used_padding (base + place) (position is_used bytes)) (lookup_body_at at) (λ place. lookup_bytes) IsLookup (padding_skipped base) (lookup_body_codec at)
 
-lookup_keys : (o : Operand) → o ≡ operand.Lookup (offset_in o) (pairs_in o) → has_ascending_keys o ≡ ascend (pairs_in o)
+lookup_keys : (o : Operand) → o ≡ operand.Lookup (offset_in o) (pairs_in o) → has_ascending_keys o ≡ keys_ascend (pairs_in o)
 lookup_keys o e = ap has_ascending_keys e
 
 pub lookup_codec : (pool : List Const) (base at : ℕ) → IsCodecAt (lookup_at base at) (λ place o. padding_bytes place ++ lookup_bytes o) (IsOperand pool form.Lookup)

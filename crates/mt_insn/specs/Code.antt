@@ -2,7 +2,7 @@
 -- has.
 use Rattle.std.specs.Prelude.{◌≡◌, ℕ, ◌+◌, ◌*◌, ◌<◌, ◌^◌, nat_lt, ℤ, pos, negsuc, ◌-ℤ◌, FitsSigned, Bool, true, false, ◌&&◌, List, [], ◌∷◌, length, map, slice_index, All, Option, Some, None, Result, Ok, Err, if◌then◌else◌}
 use Rattle.std.specs.Int.{w8, w16, w32}
-use Rattle.std.specs.Int.RustNames.{int_le, int_lt}
+use Rattle.std.specs.Int.RustNames.{int_le}
 use Rattle.std.specs.List.{AllByRecursion}
 use Rattle.class_model.specs.declared.constant.Const.{Const}
 use Rattle.class_model.specs.declared.instruction.Arg.{Arg}
@@ -14,7 +14,7 @@ use Rattle.class_model.specs.declared.fault.Bound.TheVariants as bound
 use Rattle.codec_rules.specs.Spelling.{spelled_from}
 use Rattle.mt_insn.specs.Opcode.{form_of}
 use Rattle.mt_insn.specs.Named.{names, is_loaded, is_long, is_field, is_method, is_any_method, is_interface_method, is_class, is_counted, is_array_kind}
-use Rattle.mt_insn.specs.Operands.{padding}
+use Rattle.mt_insn.specs.Operands.{padding, keys_ascend}
 use Rattle.mt_insn.specs.Spelling.{number_in, index_in, count_in, kind_in, local_in, highest, raw_bytes, IsRaw}
 use Rattle.mt_insn.specs.declared.opcode.Form.{Form}
 use Rattle.mt_insn.specs.declared.opcode.Form.TheVariants as form
@@ -162,15 +162,6 @@ arg_targets other = []
 abbrev pub arg_pairs : Arg → List (ℤ × ℕ)
 arg_pairs (arg.Lookup n pairs) = pairs
 arg_pairs other = []
-
--- Each key is above the one before, and the first is above this one.
-abbrev pub keys_rise_above : ℤ → List (ℤ × ℕ) → Bool
-keys_rise_above key [] = true
-keys_rise_above key (pair ∷ pairs) = int_lt key pair.0 && keys_rise_above pair.0 pairs
-
-abbrev pub keys_ascend : List (ℤ × ℕ) → Bool
-keys_ascend [] = true
-keys_ascend (pair ∷ pairs) = keys_rise_above pair.0 pairs
 
 -- An operand is one of the form of an opcode: it has the parts of that form and no others, and its
 -- numbers are in their ranges. What its index names, and where it leads, is said elsewhere.

@@ -179,16 +179,16 @@ lookup_body_at at input = do
   Ok (operand.Lookup default.0 pairs.0, pairs.1)
 
 -- Each key is above the one before, and the first is above this one.
-abbrev pub rise_above : ℤ → List (ℤ × ℤ) → Bool
-rise_above key [] = true
-rise_above key (pair ∷ pairs) = int_lt key pair.0 && rise_above pair.0 pairs
+abbrev pub keys_rise_above : {A : Type 0} → ℤ → List (ℤ × A) → Bool
+keys_rise_above key [] = true
+keys_rise_above key (pair ∷ pairs) = int_lt key pair.0 && keys_rise_above pair.0 pairs
 
-abbrev pub ascend : List (ℤ × ℤ) → Bool
-ascend [] = true
-ascend (pair ∷ pairs) = rise_above pair.0 pairs
+abbrev pub keys_ascend : {A : Type 0} → List (ℤ × A) → Bool
+keys_ascend [] = true
+keys_ascend (pair ∷ pairs) = keys_rise_above pair.0 pairs
 
 abbrev pub has_ascending_keys : Operand → Bool
-has_ascending_keys (operand.Lookup default pairs) = ascend pairs
+has_ascending_keys (operand.Lookup default pairs) = keys_ascend pairs
 has_ascending_keys other = false
 
 -- lookupswitch

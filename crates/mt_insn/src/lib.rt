@@ -42,6 +42,7 @@ mod write;
 
 pub use opcode::{Form, form_of};
 use size::places_of;
+pub use switch::keys_ascend;
 use whole::read_code;
 use write::write_code;
 

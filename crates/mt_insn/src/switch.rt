@@ -3,7 +3,7 @@
 ghost use Rattle.std.specs.Prelude.{◌≡◌, ◌+◌, ◌<◌, ◌^◌, length, position};
 ghost use Rattle.codec_rules.specs.Reading.{many_at};
 ghost use Rattle.mt_insn.specs.Item.{ReadsCode, s4_in};
-ghost use Rattle.mt_insn.specs.Operands.{padding, used_padding, is_used, key_count, table_items_at, table_at, pair_at, lookup_body_at, lookup_at, rise_above, ascend, has_ascending_keys};
+ghost use Rattle.mt_insn.specs.Operands.{padding, used_padding, is_used, key_count, table_items_at, table_at, pair_at, lookup_body_at, lookup_at, keys_rise_above, keys_ascend, has_ascending_keys};
 
 use crate::cursor::CodeCursor;
 use crate::raw::{Operand, TableItems};
@@ -129,8 +129,8 @@ fn read_pairs(
 }
 
 /// Each key is above the one before, and the first is above this one.
-fn rise_above(first: i32, pairs: &[(i32, i32)]) -> bool
-    ensures { result ≡ rise_above first pairs.now }
+fn keys_rise_above<T>(first: i32, pairs: &[(i32, T)]) -> bool
+    ensures { result ≡ keys_rise_above first pairs.now }
 {
     let mut key = first;
     for pair in pairs {
@@ -142,12 +142,13 @@ fn rise_above(first: i32, pairs: &[(i32, i32)]) -> bool
     true
 }
 
-fn ascend(pairs: &[(i32, i32)]) -> bool
-    ensures { result ≡ ascend pairs.now }
+/// Each key is above the one before.
+pub fn keys_ascend<T>(pairs: &[(i32, T)]) -> bool
+    ensures { result ≡ keys_ascend pairs.now }
 {
     match pairs {
         [] => true,
-        [first, rest @ ..] => rise_above(first.0, rest),
+        [first, rest @ ..] => keys_rise_above(first.0, rest),
     }
 }
 
@@ -165,7 +166,7 @@ fn has_ascending_keys(lookup: &Operand) -> bool
     ensures { result ≡ has_ascending_keys lookup.now }
 {
     match lookup {
-        Operand::Lookup(_, pairs) => ascend(pairs.as_slice()),
+        Operand::Lookup(_, pairs) => keys_ascend(pairs.as_slice()),
         _ => false,
     }
 }

@@ -11,7 +11,8 @@ use Rattle.class_model.specs.declared.instruction.Arg.TheVariants as arg
 use Rattle.class_model.specs.declared.instruction.Insn.{Insn}
 use Rattle.mt_insn.specs.Opcode.{form_of}
 use Rattle.mt_insn.specs.Spelling.{highest}
-use Rattle.mt_insn.specs.Code.{targets_in, target_in, keys_rise_above, keys_ascend, IsArg, IsWideArg, IsFormedArg, HasForm, HasTargets}
+use Rattle.mt_insn.specs.Code.{targets_in, target_in, IsArg, IsWideArg, IsFormedArg, HasForm, HasTargets}
+use Rattle.mt_insn.specs.Operands.{keys_rise_above, keys_ascend}
 use Rattle.mt_insn.specs.declared.opcode.Form.{Form}
 use Rattle.mt_insn.specs.declared.opcode.Form.TheVariants as form
 use Rattle.mutant_apply.specs.Moved.{moved_place, moved_arg, moved_insn}
