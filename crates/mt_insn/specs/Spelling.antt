@@ -7,7 +7,7 @@ use Rattle.class_model.specs.declared.constant.Const.{Const}
 use Rattle.class_model.specs.declared.instruction.Arg.TheVariants as arg
 use Rattle.mt_insn.specs.Named.{names, is_loaded, is_long, is_field, is_method, is_any_method, is_interface_method, is_class, is_counted, is_array_kind}
 use Rattle.mt_insn.specs.Opcode.{form_of}
-use Rattle.mt_insn.specs.Operands.{padding, ascend}
+use Rattle.mt_insn.specs.Operands.{padding, keys_ascend}
 use Rattle.mt_insn.specs.declared.opcode.Form.{Form}
 use Rattle.mt_insn.specs.declared.opcode.Form.TheVariants as form
 use Rattle.mt_insn.specs.declared.raw.Operand.{Operand}
@@ -194,7 +194,7 @@ IsOperand pool form.Table o =
 IsOperand pool form.Lookup o =
     (o ≡ operand.Lookup (offset_in o) (pairs_in o)) × FitsSigned w32 (offset_in o)
     × (length (pairs_in o) < 2 ^ 32) × AllByRecursion IsPair (pairs_in o)
-    × (ascend (pairs_in o) ≡ true)
+    × (keys_ascend (pairs_in o) ≡ true)
 IsOperand pool form.Field o = IsNamed is_field pool o
 IsOperand pool form.Method o = IsNamed is_method pool o
 IsOperand pool form.AnyMethod o = IsNamed is_any_method pool o
