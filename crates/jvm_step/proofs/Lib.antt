@@ -9,3 +9,4 @@ pub mod Kept
 pub mod Going
 pub mod Stepped
 pub mod Below
+pub mod Coming

@@ -20,7 +20,7 @@ use Rattle.jvm_step.specs.declared.machine.Machine.{Machine}
 use Rattle.jvm_step.specs.declared.machine.StateEnd.{StateEnd}
 use Rattle.jvm_step.specs.declared.machine.Step.TheVariants as step
 use Rattle.jvm_step.specs.Going.{going, GoesTo}
-use Rattle.jvm_step.specs.Machines.{Answers, IsMachineOf, IsMachineStill, StandsFor, StepsTo, TellsEnd, outcome_by}
+use Rattle.jvm_step.specs.Machines.{Answers, HasNoRow, IsMachineOf, IsMachineStill, StandsFor, StepsTo, TellsEnd, outcome_by}
 
 by_end : (p : Look) (q : Limits) (s : def.MachineState) (o : Option Outcome) → steps.outcome_of s ≡ o → step_of p q s ≡ steps.unless_ended o (steps.next_or (steps.place_of p s) (goes p q s.world s.thrown s.frames))
 unfolding step_of
@@ -37,8 +37,8 @@ goes_is p m s h =
 pub ended : (p : List Info) (m : Machine) (e : StateEnd) → TellsEnd p m (Some e) → Answers p (step.Ended e) m m
 ended p m e tells = (refl, λ s h. by_end (look p) m.world.limits s (Some (outcome_by s.world.heap e)) (tells s h))
 
-pub stuck : (p : List Info) (m new : Machine) (fs : NumberedFrames) (u : World) → TellsEnd p m None → GoesTo p m.thrown turn.NoRow m.frames fs m.world u → Answers p step.Stuck m new
-stuck p m new fs u tells h = λ s is.
+pub no_row : (p : List Info) (m : Machine) (fs : NumberedFrames) (u : World) → TellsEnd p m None → GoesTo p m.thrown turn.NoRow m.frames fs m.world u → HasNoRow p m
+no_row p m fs u tells h = λ s is.
     by_effect (look p) m.world.limits s NoRow (tells s is) (goes_is p m s is ∙ h s.world is.world)
 
 comes : (p : List Info) (m new : Machine) (s : def.MachineState) → StandsFor p m s → steps.outcome_of s ≡ None → Comes p new.world (frames_of p new.frames) new.thrown (going p m.world.limits m.thrown m.frames s.world) → StepsTo p m.world.limits new s

@@ -4,3 +4,4 @@ pub mod Programs
 pub mod Machines
 pub mod Going
 pub mod Below
+pub mod Coming

@@ -94,8 +94,7 @@ pub record StepsTo (p : List Info) (q : Limits) (new : Machine) (s : MachineStat
   pub step : def.step_of (look p) q s ≡ def.Next state
 
 -- What a step answers, of each state that the machine stands for: it stands for the next one; or
--- the state has ended, and nothing has changed; or no row applies, and nothing is said of the
--- machine.
+-- the state has ended, and nothing has changed.
 abbrev pub Answers : List Info → Step → Machine → Machine → Type 0
 Answers p step.Next old new =
     (s : MachineState) → StandsFor p old s → StepsTo p old.world.limits new s
@@ -103,6 +102,10 @@ Answers p (step.Ended e) old new =
     (new ≡ old)
     × ((s : MachineState) → StandsFor p old s →
     def.step_of (look p) old.world.limits s ≡ def.Ended (outcome_by s.world.heap e))
-Answers p step.Stuck old new =
-    (s : MachineState) → StandsFor p old s →
-    def.step_of (look p) old.world.limits s ≡ def.Stuck (def.place_of (look p) s)
+
+-- No row applies to any state that a machine stands for. Of a machine that has come to a state of a
+-- test's run it is never so.
+abbrev pub HasNoRow : List Info → Machine → Type 0
+HasNoRow p m =
+    (s : MachineState) → StandsFor p m s →
+    def.step_of (look p) m.world.limits s ≡ def.Stuck (def.place_of (look p) s)

@@ -40,8 +40,6 @@ pub enum Step {
     Next,
     /// The state had ended before the step, and is as it was.
     Ended(StateEnd),
-    /// No row applies. Nothing is known of the machine any more.
-    Stuck,
 }
 
 // How a machine has ended, if it has.

@@ -7,6 +7,7 @@ ghost use Rattle.jvm_frames.specs.Frames.{IsAt};
 ghost use Rattle.jvm_world.specs.View.{IsWorldOf, IsKept};
 ghost use Rattle.jvm_lines.specs.Below.{AreCodes, IsHeld};
 ghost use Rattle.jvm_lines.specs.Below.{AreFramesOf};
+ghost use Rattle.jvm_step.specs.Coming.{HasCome};
 ghost use Rattle.jvm_step.specs.Going.{GoesTo};
 ghost use Rattle.jvm_step.specs.Machines.{Answers, HasFewMonitors, HasMeaning, IsMachineOf, IsMachineStill};
 ghost use Rattle.jvm_step.specs.Programs.{HaveRoomToLand, IsRunnable};
@@ -22,6 +23,7 @@ use jvm_frames::{Frames, Place};
 use jvm_lines::{Codes, Turn, reach_line, unwind_frame};
 use jvm_world::World;
 use std::alloc::Global;
+use type_laws::accepted_code_is_never_stuck;
 
 // The code of the method of the running frame is held from now on: it has one.
 #[tactic(auto, using(crate::proofs::Going::class_within, crate::proofs::Going::not_without))]
@@ -189,8 +191,8 @@ fn turn(
     }
 }
 
-/// One step of a machine. One that has ended stays as it is. The tables are right still, also where
-/// memory ran out.
+/// One step of a machine that runs a test of accepted code: a row applies, unless it has ended, and
+/// then it stays as it is. The tables are right still, also where memory ran out.
 #[tactic(auto, using(crate::proofs::Stepped::still, crate::proofs::Stepped::still_same))]
 pub fn step(
     m: &mut Machine,
@@ -202,7 +204,7 @@ pub fn step(
     requires tables { AreTablesOf p.now tables.old }
     requires runnable { IsRunnable (look p.now) }
     requires few { HasFewMonitors m.old.world }
-    requires meaning { HasMeaning p.now m.old.world }
+    requires come { HasCome p.now m.old }
     ensures step { IfOk result (λ r. Answers p.now r m.old m.new) }
     ensures still { OnOk result (IsMachineStill p.now m.old m.new) }
     ensures tables { AreTablesOf p.now tables.new }
@@ -213,7 +215,10 @@ pub fn step(
     }
     let done = turn(&mut m.frames, &mut m.world, alloc, p, tables, m.thrown)?;
     match done {
-        Turn::NoRow => Ok(Step::Stuck),
+        Turn::NoRow => {
+            accepted_code_is_never_stuck();
+            unreachable!()
+        }
         Turn::Goes => {
             m.thrown = None;
             Ok(Step::Next)
