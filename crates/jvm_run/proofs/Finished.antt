@@ -5,7 +5,7 @@ use Rattle.class_link.specs.Info.{Info}
 use Rattle.jvm_world.specs.declared.world.World.{World}
 use Rattle.jvm_world.specs.View.{AreClasses, History, named, world_of}
 use Rattle.jvm_step.specs.declared.machine.Machine.{Machine}
-use Rattle.jvm_run.specs.declared.ending.Ending.{Ending}
+use Rattle.class_model.specs.declared.outcome.Outcome.{Outcome}
 use Rattle.jvm_run.specs.declared.result.RunResult.{RunResult}
 use Rattle.jvm_run.specs.Result.{TellsRun, pairs_of}
 
@@ -17,9 +17,9 @@ reached_is : (p : List Info) (w : World) (h : History) (v : def.World) → v ≡
 unfolding world_of
 reached_is p w h v e = ap (λ (u : def.World). u.reached) e
 
-pub tells_run : (p : List Info) (m : Machine) (r : RunResult) (e : Ending) (n : ℕ) → r.ending ≡ e → r.steps ≡ n → r.consulted ≡ m.world.consulted.names → pairs_of r ≡ m.world.reached → AreClasses p m.world.reached → TellsRun p m r e n
-tells_run p m r e n ending steps consulted reached within = λ s is. record {
-  ending = ending;
+pub tells_run : (p : List Info) (m : Machine) (r : RunResult) (o : Outcome) (n : ℕ) → r.outcome ≡ o → r.steps ≡ n → r.consulted ≡ m.world.consulted.names → pairs_of r ≡ m.world.reached → AreClasses p m.world.reached → TellsRun p m r o n
+tells_run p m r o n outcome steps consulted reached within = λ s is. record {
+  outcome = outcome;
   steps = steps;
   consulted = consulted ∙ sym (consulted_is p m.world is.world.past s.world is.world.world);
   reached = ap (map (named p)) reached ∙ sym (reached_is p m.world is.world.past s.world is.world.world);

@@ -39,7 +39,7 @@ use Rattle.jvm_step.specs.declared.machine.Step.TheVariants as step
 use Rattle.jvm_run.specs.declared.taking.Taken.{Taken}
 use Rattle.jvm_run.specs.declared.taking.Taken.TheVariants as taken
 use Rattle.jvm_step.specs.Going.{GoesTo}
-use Rattle.jvm_step.specs.Machines.{Answers, HasMeaning, IsMachineOf, IsMachineStill, TellsEnd, ended_with, over_or}
+use Rattle.jvm_step.specs.Machines.{Answers, HasMeaning, HasNoRow, IsMachineOf, IsMachineStill, TellsEnd, ended_with, over_or}
 use Rattle.jvm_run.specs.Passing.{Fits, HasMark, IsCalm, IsReachedIn, IsUpTo, RunsReached, StaysReady, Took, plus, went_of}
 use Rattle.jvm_run.specs.Running.{HasRun}
 use Rattle.jvm_step.proofs.Ends.{tells_end}
@@ -112,8 +112,8 @@ module _ (p : List Info) (m : Machine) (code : MethodCode) (marks : List Bool) (
   answers_throws : (x : ℕ) → Turned p (acting p) (turn.Throws x) m.frames fs m.world u → Answers p step.Next m (record { frames = fs; thrown = Some x; world = u })
   answers_throws x h = stepped.throws_on p m x fs u no_end (goes_to (turn.Throws x) h)
 
-  answers_stuck : Turned p (acting p) turn.NoRow m.frames fs m.world u → (new : Machine) → Answers p step.Stuck m new
-  answers_stuck h new = stepped.stuck p m new fs u no_end (goes_to turn.NoRow h)
+  has_no_row : Turned p (acting p) turn.NoRow m.frames fs m.world u → HasNoRow p m
+  has_no_row h = stepped.no_row p m fs u no_end (goes_to turn.NoRow h)
 
 -- ---- what it comes to
 
@@ -159,10 +159,10 @@ took_one p m new meaning answer still = record {
   ready = (meaning_behind p m new meaning answer, stays.keeps p m new meaning answer);
 }
 
-took_stuck : (p : List Info) (m new : Machine) → Answers p step.Stuck m new → IsMachineOf p new → Took p 1 m new (taken.Stuck 0)
-took_stuck p m new answer is = record {
+took_stuck : (p : List Info) (m new : Machine) → HasNoRow p m → IsMachineOf p new → Took p 1 m new (taken.Stuck 0)
+took_stuck p m new none is = record {
   within = omega arith;
-  goes = λ q limit i s run lt. let e : i ≡ i + 0 = omega arith in (m, subst (λ k. HasRun p q limit k s m) e run, answer);
+  goes = λ q limit i s run lt. let e : i ≡ i + 0 = omega arith in (m, subst (λ k. HasRun p q limit k s m) e run, none);
   same = λ e. absurd (not_stuck 0 e);
   machine = is;
   ready = tt;
@@ -173,24 +173,18 @@ took_stuck p m new answer is = record {
 pub within_by : (limit : ℕ) (r : Step) → 0 < limit → IsWithin limit (went_by r)
 within_by limit step.Next lt = (omega arith, omega (arith, lt))
 within_by limit (step.Ended o) lt = tt
-within_by limit step.Stuck lt = lt
 
 pub went_on : (p : List Info) (m new : Machine) (r : Step) → Answers p r m new → IsMachineStill p m new → WentTo p (went_by r) m new
 went_on p m new step.Next answer still = stays.one_taken p m new answer still
 went_on p m new (step.Ended o) answer still = answer
-went_on p m new step.Stuck answer still = λ q limit i s run lt.
-    let e : i ≡ i + 0 = omega arith in
-    (m, subst (λ k. HasRun p q limit k s m) e run, answer)
 
 pub marked_by : (p : List Info) (ms : List Marked) (m new : Machine) (r : Step) → HasMeaning p m.world → Answers p r m new → AreMarkedRight p ms (lines_of p m.world) → StaysMarked p (went_by r) ms new
 marked_by p ms m new step.Next h answer right = stays.marked_behind p ms m new h answer right
 marked_by p ms m new (step.Ended o) h answer right = tt
-marked_by p ms m new step.Stuck h answer right = tt
 
 pub machine_by : (p : List Info) (new : Machine) (r : Step) → IsMachineOf p new → StaysMachine p (went_by r) new
 machine_by p new step.Next h = tt
 machine_by p new (step.Ended o) h = h
-machine_by p new step.Stuck h = h
 
 -- ---- by the turn of the instruction
 
@@ -209,7 +203,7 @@ module _ (p : List Info) (m : Machine) (code : MethodCode) (marks : List Bool) (
   pub took_no_row : Turned p (acting p) turn.NoRow m.frames fs m.world u → Took p 1 m (record { frames = fs; thrown = m.thrown; world = u }) (taken.Stuck 0)
   took_no_row h =
       let new : Machine = record { frames = fs; thrown = m.thrown; world = u } in
-      took_stuck p m new (answers_stuck p m code marks fs u calm runs marked h new) (still_of m.thrown).machine
+      took_stuck p m new (has_no_row p m code marks fs u calm runs marked h) (still_of m.thrown).machine
 
 -- ---- one after the other
 

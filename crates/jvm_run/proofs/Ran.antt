@@ -1,13 +1,15 @@
 -- A run, one step on, and what it comes to.
-use Rattle.std.proofs.Common.{◌≡◌, ◌∙◌, refl, sym, ap, subst, ℕ, zero, suc, ◌+◌, ◌-◌, ◌<◌, ◌≤◌, ◌⊎◌, inl, inr, List, Option, None, Some, arith}
+use Rattle.std.proofs.Common.{◌≡◌, ◌∙◌, refl, sym, ap, subst, ℕ, zero, suc, ◌+◌, ◌-◌, ◌<◌, ◌≤◌, List, Option, None, Some, arith}
 use Rattle.std.specs.Option.{option_map}
 use Rattle.program_rules.specs.Objects.{Object}
 use Rattle.std.specs.Prelude.{◌^◌}
 use Rattle.machine_rules.specs.declared.machine.Limits.{Limits}
-use Rattle.machine_rules.specs.Outcomes.{Outcome}
+use Rattle.class_model.specs.declared.outcome.Outcome.{Outcome}
+use Rattle.machine_rules.specs.Outcomes as machine
+use Rattle.record_rules.specs.Outcomes.{outcome_at}
 use Rattle.machine_rules.specs.State as def
-use Rattle.machine_rules.specs.Steps.{Stepped, Next, Ended, Stuck, Place, outcome_of, place_of, step_of}
-use Rattle.machine_rules.specs.Runs.{Ending, Ran, With, StuckAt, at_limit, comes_to, run_from, then_run}
+use Rattle.machine_rules.specs.Steps.{Stepped, Next, Ended, Stuck, outcome_of, step_of}
+use Rattle.machine_rules.specs.Runs.{Ran, With, at_limit, comes_to, run_from, then_run}
 use Rattle.machine_rules.specs.TypeRows.{monitor_count}
 use Rattle.machine_laws.specs.FrameLaw.{IfNext}
 use Rattle.machine_laws.proofs.Monitors.{steps_open}
@@ -18,18 +20,18 @@ use Rattle.class_table.specs.Table.{look}
 use Rattle.jvm_world.specs.Holding.{opened}
 use Rattle.jvm_step.specs.declared.machine.Machine.{Machine}
 use Rattle.jvm_step.specs.declared.machine.Step.TheVariants as step
-use Rattle.class_model.specs.declared.outcome.Outcome as class
-use Rattle.jvm_run.specs.declared.ending.Ending as code
-use Rattle.jvm_run.specs.declared.ending.Ending.TheVariants as ending
 use Rattle.jvm_step.specs.declared.machine.StateEnd.{StateEnd}
 use Rattle.jvm_run.specs.declared.result.RunResult.{RunResult}
-use Rattle.jvm_run.specs.declared.running.RunEnd.{RunEnd}
-use Rattle.jvm_run.specs.declared.running.RunEnd.TheVariants as end
-use Rattle.jvm_run.specs.Ending.{IsOutcomeBy, ending_in}
-use Rattle.jvm_step.specs.Machines.{Answers, HasFewMonitors, HasMeaning, IsMachineOf, IsMachineStill, StandsFor, TellsEnd, outcome_by, run_outcome}
+use Rattle.jvm_run.specs.Ending.{IsOutcomeBy}
+use Rattle.jvm_step.specs.Coming.{HasCome, after, next_or}
+use Rattle.jvm_step.specs.Programs.{IsAcceptedFor}
+use Rattle.jvm_step.proofs.Coming as coming
+use Rattle.jvm_step.specs.Machines.{Answers, HasFewMonitors, HasMeaning, HasNoRow, IsMachineOf, IsMachineStill, StandsFor, TellsEnd, outcome_by, run_outcome}
 use Rattle.jvm_run.specs.Result.{IsResultOf, TellsRun}
 use Rattle.jvm_step.proofs.Going.{counts_are}
-use Rattle.jvm_run.specs.Running.{EndsSo, HasRun, HasSteps, IsNext, IsStuckResult, after, next_or, start_of}
+use Rattle.jvm_run.specs.Running.{EndsSo, HasRun, start_of}
+use Rattle.jvm_world.specs.View.{test_of}
+use Rattle.type_laws.specs.Soundness.{NeverStuck}
 
 -- ---- one step on, in the definitions
 
@@ -56,32 +58,6 @@ run_least : (p : Look) (q : Limits) (k : ℕ) (s : def.MachineState) (n : ℕ) �
 run_least p q zero s n = omega arith
 run_least p q (suc k) s n = then_least n s.world _ (λ t. omega (arith, run_least p q k t (suc n))) (step_of p q s)
 
-is_next : (d : Stepped) (t : def.MachineState) → d ≡ Next t → IsNext d
-is_next d t e = subst IsNext (sym e) tt
-
-not_next_ended : (d : Stepped) (o : Outcome) → d ≡ Ended o → IsNext d → ⊥
-not_next_ended d o e h = subst IsNext e h
-
-not_next_stuck : (d : Stepped) (place : Place) → d ≡ Stuck place → IsNext d → ⊥
-not_next_stuck d place e h = subst IsNext e h
-
-last_or_before : (i n : ℕ) → i < n + 1 → (i < n) ⊎ (i ≡ n)
-last_or_before zero zero lt = inr refl
-last_or_before zero (suc n) lt = inl (omega arith)
-last_or_before (suc i) zero lt = absurd (omega (arith, lt))
-last_or_before (suc i) (suc n) lt = on_more (last_or_before i n (omega (arith, lt)))
-  where
-    on_more : ((i < n) ⊎ (i ≡ n)) → (suc i < suc n) ⊎ (suc i ≡ suc n)
-    on_more (inl h) = inl (omega (arith, h))
-    on_more (inr e) = inr (ap suc e)
-
-one_step_more : (p : List Info) (q : Limits) (n : ℕ) (s : def.MachineState) → HasSteps p q n s → IsNext (step_of (look p) q (after (look p) q n s)) → HasSteps p q (n + 1) s
-one_step_more p q n s steps last = λ i lt. by_place i (last_or_before i n lt)
-  where
-    by_place : (i : ℕ) → ((i < n) ⊎ (i ≡ n)) → IsNext (step_of (look p) q (after (look p) q i s))
-    by_place i (inl lt) = steps i lt
-    by_place i (inr e) = subst (λ k. IsNext (step_of (look p) q (after (look p) q k s))) (sym e) last
-
 -- ---- monitors
 
 if_next : (d : Stepped) (t : def.MachineState) (P : def.MachineState → Type 0) → d ≡ Next t → IfNext d P → P t
@@ -101,7 +77,6 @@ begins p limit t m h is = record {
   machine = h;
   limits = refl;
   stands = is;
-  steps = λ i lt. absurd (omega (arith, lt));
   few = λ x. let e : 0 ≡ opened x m.world.monitors = counts_are p m.world (start_of p t).world is.world x in omega (arith, e);
   rest = let e : limit - 0 ≡ limit = omega arith in ap (λ n. run_from (look p) m.world.limits n (start_of p t) 0) (sym e);
 }
@@ -122,7 +97,6 @@ goes_on p q limit i s m new lt h answer still =
       machine = still.machine;
       limits = still.limits ∙ h.limits;
       stands = subst (StandsFor p new) (sym there) to.1;
-      steps = one_step_more p q i s h.steps (is_next (step_of (look p) q here) to.0 to.2);
       few = λ x. omega (arith, opens_one p q m new here to.0 x h.stands to.1 to.2, h.few x);
       rest = h.rest ∙ run_on (look p) q limit i here (Next to.0) lt to.2
           ∙ ap (λ t. run_from (look p) q (limit - (i + 1)) t (i + 1)) (sym there);
@@ -134,79 +108,58 @@ ended_at p q limit i s m new e h answer =
     let here = after (look p) q i s in
     subst (λ k. step_of (look p) k here ≡ Ended (outcome_by here.world.heap e)) h.limits (answer.1 here h.stands)
 
-stuck_in : (p : List Info) (q : Limits) (limit i : ℕ) (s : def.MachineState) (m new : Machine) → HasRun p q limit i s m → Answers p step.Stuck m new → step_of (look p) q (after (look p) q i s) ≡ Stuck (place_of (look p) (after (look p) q i s))
-stuck_in p q limit i s m new h answer =
-    let here = after (look p) q i s in
-    subst (λ k. step_of (look p) k here ≡ Stuck (place_of (look p) here)) h.limits (answer here h.stands)
-
-pub ended : (p : List Info) (q : Limits) (limit i : ℕ) (s : def.MachineState) (m new : Machine) (e : StateEnd) → i < limit → HasRun p q limit i s m → Answers p (step.Ended e) m new → EndsSo p q limit s (end.At (Some e)) i new
+pub ended : (p : List Info) (q : Limits) (limit i : ℕ) (s : def.MachineState) (m new : Machine) (e : StateEnd) → i < limit → HasRun p q limit i s m → Answers p (step.Ended e) m new → EndsSo p q limit s (Some e) i new
 ended p q limit i s m new e lt h answer =
-    let here = after (look p) q i s in (
-      subst (λ k. StandsFor p k here) (sym answer.0) h.stands,
-      h.rest ∙ run_on (look p) q limit i here (Ended (outcome_by here.world.heap e)) lt (ended_at p q limit i s m new e h answer),
-    )
-
-pub stuck : (p : List Info) (q : Limits) (limit i : ℕ) (s : def.MachineState) (m new : Machine) → i < limit → HasRun p q limit i s m → Answers p step.Stuck m new → EndsSo p q limit s end.Stuck i new
-stuck p q limit i s m new lt h answer =
     let here = after (look p) q i s in
-    (h.steps, h.rest ∙ run_on (look p) q limit i here (Stuck (place_of (look p) here)) lt (stuck_in p q limit i s m new h answer))
+    record {
+      stands = subst (λ k. StandsFor p k here) (sym answer.0) h.stands;
+      run = h.rest ∙ run_on (look p) q limit i here (Ended (outcome_by here.world.heap e)) lt (ended_at p q limit i s m new e h answer);
+    }
+
+-- In the run of a test of accepted code each state has a row.
+pub comes : (p : List Info) (q : Limits) (limit i : ℕ) (t : Test) (m : Machine) → IsAcceptedFor (look p) (test_of t) → HasRun p q limit i (start_of p t) m → HasCome p m
+comes p q limit i t m accepted h = record {
+  test = test_of t;
+  accepted = accepted;
+  taken = i;
+  stands = subst (λ k. StandsFor p m (after (look p) k i (start_of p t))) (sym h.limits) h.stands;
+}
+
+pub never_stuck : NeverStuck → (p : List Info) (q : Limits) (limit i : ℕ) (t : Test) (m : Machine) → IsAcceptedFor (look p) (test_of t) → HasRun p q limit i (start_of p t) m → HasNoRow p m → ⊥
+never_stuck law p q limit i t m accepted h none = coming.never_stuck law p m (comes p q limit i t m accepted h) none
 
 limit_outcome : (h : List Object) (e : Option StateEnd) → at_limit (option_map (outcome_by h) e) ≡ With (run_outcome h e)
 limit_outcome h None = refl
 limit_outcome h (Some e) = refl
 
-pub at_limit_is : (p : List Info) (q : Limits) (limit : ℕ) (s : def.MachineState) (m : Machine) (e : Option StateEnd) → HasRun p q limit limit s m → TellsEnd p m e → EndsSo p q limit s (end.At e) limit m
+pub at_limit_is : (p : List Info) (q : Limits) (limit : ℕ) (s : def.MachineState) (m : Machine) (e : Option StateEnd) → HasRun p q limit limit s m → TellsEnd p m e → EndsSo p q limit s e limit m
 at_limit_is p q limit s m e h tells =
     let here = after (look p) q limit s in
     let none : limit - limit ≡ 0 = omega arith in
     let ends : at_limit (outcome_of here) ≡ With (run_outcome here.world.heap e) = ap at_limit (tells here h.stands) ∙ limit_outcome here.world.heap e in
-    (h.stands, h.rest ∙ ap (λ n. run_from (look p) q n here limit) none ∙ ap (λ k. comes_to k limit here.world) ends)
+    record {
+      stands = h.stands;
+      run = h.rest ∙ ap (λ n. run_from (look p) q n here limit) none ∙ ap (λ k. comes_to k limit here.world) ends;
+    }
 
 pub least : (p : List Info) (q : Limits) (limit i : ℕ) (s : def.MachineState) (m : Machine) → HasRun p q limit i s m → i ≤ (run_from (look p) q limit s 0).steps
 least p q limit i s m h = subst (λ r. i ≤ r.steps) (sym h.rest) (run_least (look p) q (limit - i) (after (look p) q i s) i)
 
--- ---- it runs again
-
-pub not_ended : (p : List Info) (q : Limits) (limit i : ℕ) (s : def.MachineState) (m new : Machine) (e : StateEnd) → i < limit → HasSteps p q limit s → HasRun p q limit i s m → Answers p (step.Ended e) m new → ⊥
-not_ended p q limit i s m new e lt steps h answer =
-    let here = after (look p) q i s in
-    not_next_ended (step_of (look p) q here) (outcome_by here.world.heap e) (ended_at p q limit i s m new e h answer) (steps i lt)
-
-pub not_stuck : (p : List Info) (q : Limits) (limit i : ℕ) (s : def.MachineState) (m new : Machine) → i < limit → HasSteps p q limit s → HasRun p q limit i s m → Answers p step.Stuck m new → ⊥
-not_stuck p q limit i s m new lt steps h answer =
-    let here = after (look p) q i s in
-    not_next_stuck (step_of (look p) q here) (place_of (look p) here) (stuck_in p q limit i s m new h answer) (steps i lt)
-
 -- ---- what it gives
 
-result_of : (p : List Info) (m : Machine) (r : RunResult) (told : code.Ending) (e : Ending) (n : ℕ) (s : def.MachineState) (ran : Ran) → StandsFor p m s → TellsRun p m r told n → told ≡ ending_in e → ran ≡ comes_to e n s.world → IsResultOf p r ran
-result_of p m r told e n s ran is tells ends comes =
-    let t = tells s is in
+pub with_result : (p : List Info) (q : Limits) (limit n : ℕ) (s : def.MachineState) (m : Machine) (e : Option StateEnd) (o : Outcome) (r : RunResult) → EndsSo p q limit s e n m → IsOutcomeBy p m e o → TellsRun p m r o n → IsResultOf p r (run_from (look p) q limit s 0)
+with_result p q limit n s m e o r h is tells =
+    let here = after (look p) q n s in
+    let t = tells here h.stands in
+    let run = h.run in
     record {
-      ending = t.ending ∙ ends ∙ sym (ap (λ k. ending_in k.ending) comes);
-      steps = t.steps ∙ sym (ap (λ k. k.steps) comes);
-      consulted = t.consulted ∙ sym (ap (λ k. k.consulted) comes);
-      reached = t.reached ∙ sym (ap (λ k. k.reached) comes);
+      outcome = ap (λ k. outcome_at k.ending) run ∙ ap Some (sym (is here h.stands)) ∙ ap Some (sym t.outcome);
+      steps = t.steps ∙ sym (ap (λ k. k.steps) run);
+      consulted = t.consulted ∙ sym (ap (λ k. k.consulted) run);
+      reached = t.reached ∙ sym (ap (λ k. k.reached) run);
       within = t.within;
     }
 
-pub with_result : (p : List Info) (q : Limits) (limit n : ℕ) (s : def.MachineState) (m : Machine) (e : Option StateEnd) (o : class.Outcome) (r : RunResult) → EndsSo p q limit s (end.At e) n m → IsOutcomeBy p m e o → TellsRun p m r (ending.With o) n → IsResultOf p r (run_from (look p) q limit s 0)
-with_result p q limit n s m e o r h is tells =
-    let here = after (look p) q n s in
-    result_of p m r (ending.With o) (With (run_outcome here.world.heap e)) n here (run_from (look p) q limit s 0) h.0 tells (ap ending.With (is here h.0)) h.1
-
-pub stuck_result : (p : List Info) (q : Limits) (n : ℕ) (s : def.MachineState) (m : Machine) (told : code.Ending) (r : RunResult) → StandsFor p m (after (look p) q n s) → ((t : def.MachineState) → StandsFor p m t → told ≡ ending_in (StuckAt (place_of (look p) t))) → TellsRun p m r told n → IsStuckResult p q n s r
-stuck_result p q n s m told r is place tells =
-    let here = after (look p) q n s in
-    result_of p m r told (StuckAt (place_of (look p) here)) n here (comes_to (StuckAt (place_of (look p) here)) n here.world) is tells (place here is) refl
-
-pub stuck_long : (p : List Info) (q : Limits) (limit n : ℕ) (s : def.MachineState) (m : Machine) → EndsSo p q limit s end.Stuck n m → HasSteps p q n s
-stuck_long p q limit n s m h = h.0
-
-pub stuck_is : (p : List Info) (q : Limits) (limit n : ℕ) (s : def.MachineState) (m : Machine) (r : RunResult) → EndsSo p q limit s end.Stuck n m → IsStuckResult p q n s r → IsResultOf p r (run_from (look p) q limit s 0)
-stuck_is p q limit n s m r h is = subst (IsResultOf p r) (sym h.1) is
-
 -- The run has so many steps.
-pub steps_of : (p : List Info) (q : Limits) (limit n : ℕ) (s : def.MachineState) (m : Machine) (e : RunEnd) → EndsSo p q limit s e n m → (run_from (look p) q limit s 0).steps ≡ n
-steps_of p q limit n s m (end.At o) h = ap (λ r. r.steps) h.1
-steps_of p q limit n s m end.Stuck h = ap (λ r. r.steps) h.1
+pub steps_of : (p : List Info) (q : Limits) (limit n : ℕ) (s : def.MachineState) (m : Machine) (e : Option StateEnd) → EndsSo p q limit s e n m → (run_from (look p) q limit s 0).steps ≡ n
+steps_of p q limit n s m e h = ap (λ r. r.steps) h.run

@@ -10,10 +10,10 @@ use Rattle.jvm_step.specs.declared.machine.Step.{Step}
 use Rattle.jvm_step.specs.declared.machine.Step.TheVariants as step
 use Rattle.jvm_run.specs.declared.advancing.Went.{Went}
 use Rattle.jvm_run.specs.declared.advancing.Went.TheVariants as went
-use Rattle.jvm_step.specs.Machines.{Answers, IsMachineOf}
+use Rattle.jvm_step.specs.Machines.{Answers, HasNoRow, IsMachineOf}
 use Rattle.jvm_run.specs.Running.{HasRun}
 
--- So many steps further, or what one step answers, where it is stuck behind so many.
+-- So many steps further, or what one step answers; or no row applies behind so many.
 abbrev pub WentTo : List Info → Went → Machine → Machine → Type 0
 WentTo p (went.Steps n) old new =
     (q : Limits) (limit i : ℕ) (s : MachineState) → HasRun p q limit i s old → i + n ≤ limit →
@@ -21,13 +21,12 @@ WentTo p (went.Steps n) old new =
 WentTo p (went.Ended o) old new = Answers p (step.Ended o) old new
 WentTo p (went.Stuck n) old new =
     (q : Limits) (limit i : ℕ) (s : MachineState) → HasRun p q limit i s old → i + n < limit →
-    (last : Machine) × HasRun p q limit (i + n) s last × Answers p step.Stuck last new
+    (last : Machine) × HasRun p q limit (i + n) s last × HasNoRow p last
 
 -- What one step answers, of one that goes on.
 abbrev pub went_by : Step → Went
 went_by step.Next = went.Steps 1
 went_by (step.Ended o) = went.Ended o
-went_by step.Stuck = went.Stuck 0
 
 -- It is one step at least, and so many at most.
 abbrev pub IsWithin : ℕ → Went → Type 0

@@ -3,7 +3,9 @@ pub use Rattle.jvm_step.specs.Below.{Finds, IsCatchRow, IsThrown, IsWithin, Runs
 pub use Rattle.jvm_step.specs.Below.{storing_element}
 pub use Rattle.jvm_step.specs.Machines.{Answers, HasFewMonitors, HasMeaning, IsMachineOf}
 pub use Rattle.jvm_step.specs.Machines.{IsMachineStill, StandsFor}
-pub use Rattle.jvm_step.specs.Programs.{HasRoomToLand, HaveRoomToLand, IsRunnable}
+pub use Rattle.jvm_step.specs.Programs.{HasRoomToLand, HaveRoomToLand, IsAcceptedFor, IsRunnable}
+pub use Rattle.jvm_step.specs.Programs.{IsSound}
+pub use Rattle.jvm_step.specs.Coming.{HasCome, after}
 pub use Rattle.jvm_step.specs.Tables.{AreNamedOf, AreTablesOf, looked_up}
 pub use Rattle.jvm_step.specs.declared.tables.Tables.{Tables}
 pub use Rattle.jvm_step.specs.Below.jvm_act_contracts_codes_Codes as jvm_act_contracts_codes_Codes

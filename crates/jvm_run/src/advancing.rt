@@ -5,7 +5,8 @@ ghost use Rattle.class_table.specs.Table.{look};
 ghost use Rattle.jvm_step.specs.Below.{lines_of};
 ghost use Rattle.jvm_step.specs.Below.{AreMarkedRight};
 ghost use Rattle.jvm_run.specs.Advancing.{IsWithin, StaysMachine, StaysMarked, WentTo, went_by};
-ghost use Rattle.jvm_step.specs.Machines.{HasFewMonitors, HasMeaning, IsMachineOf};
+ghost use Rattle.jvm_step.specs.Coming.{HasCome};
+ghost use Rattle.jvm_step.specs.Machines.{HasFewMonitors, IsMachineOf};
 ghost use Rattle.jvm_step.specs.Programs.{IsRunnable};
 ghost use Rattle.jvm_step.specs.Tables.{AreTablesOf};
 
@@ -34,12 +35,11 @@ fn went_by(stepped: Step) -> Went
     match stepped {
         Step::Next => Went::Steps(1),
         Step::Ended(end) => Went::Ended(end),
-        Step::Stuck => Went::Stuck(0),
     }
 }
 
-/// A machine goes on by so many steps at most, and by one at least, unless it has ended or no row
-/// applies. The tables are right still, also where memory ran out.
+/// A machine that runs a test of accepted code goes on by so many steps at most, and by one at
+/// least, unless it has ended. The tables are right still, also where memory ran out.
 pub fn advance(
     m: &mut Machine,
     alloc: Global,
@@ -53,7 +53,7 @@ pub fn advance(
     requires marked { AreMarkedRight p.now marks.old.items (lines_of p.now m.old.world) }
     requires runnable { IsRunnable (look p.now) }
     requires few { HasFewMonitors m.old.world }
-    requires meaning { HasMeaning p.now m.old.world }
+    requires come { HasCome p.now m.old }
     requires limit { 0 < limit }
     ensures within { IfOk result (IsWithin limit) }
     ensures went { IfOk result (λ r. WentTo p.now r m.old m.new) }

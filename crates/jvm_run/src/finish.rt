@@ -4,9 +4,8 @@ ghost use Rattle.std.specs.Prelude.{◌≡◌, map, IfOk};
 ghost use Rattle.jvm_run.specs.Result.{TellsRun};
 ghost use Rattle.jvm_step.specs.Machines.{IsMachineOf};
 
-use crate::ending::Ending;
 use crate::result::RunResult;
-use class_model::{ClassId, Memory, Seq};
+use class_model::{ClassId, Memory, Outcome, Seq};
 use class_table::Program;
 use jvm_step::Machine;
 use std::alloc::Global;
@@ -20,22 +19,22 @@ fn copy_pairs(alloc: Global, pairs: &[(ClassId, u16)]) -> Result<Seq<(ClassId, u
     Ok(Seq::from_vec(copy))
 }
 
-/// What a run gives that came to this end after so many steps.
+/// What a run gives that came to this outcome after so many steps.
 pub fn finish(
     alloc: Global,
     p: &Program,
     m: &Machine,
-    ending: Ending,
+    outcome: Outcome,
     steps: u64,
 ) -> Result<RunResult, Memory>
     requires { IsMachineOf p.now m.now }
-    ensures { IfOk result (λ r. TellsRun p.now m.now r ending steps) }
+    ensures { IfOk result (λ r. TellsRun p.now m.now r outcome steps) }
 {
     let _ = p.len();
     let consulted = m.world.consulted.names().copy()?;
     let reached = copy_pairs(alloc, m.world.reached.pairs())?;
     Ok(RunResult {
-        ending,
+        outcome,
         steps,
         consulted,
         reached,

@@ -1,12 +1,11 @@
 //! What a run gives.
 
-use crate::ending::Ending;
-use class_model::{ClassId, Name, Seq};
+use class_model::{ClassId, Name, Outcome, Seq};
 
 /// What a run gives.
 #[derive(Drop)]
 pub struct RunResult {
-    pub ending: Ending,
+    pub outcome: Outcome,
     pub steps: u64,
     /// The names that were consulted, in order of first use.
     pub consulted: Seq<Name>,

@@ -4,6 +4,8 @@ use Rattle.jvm_step.specs.Machines.{Answers, HasFewMonitors, IsMachineStill}
 use Rattle.jvm_run.specs.Advancing.{IsWithin, StaysMachine, StaysMarked, WentTo}
 use Rattle.jvm_run.specs.Passing.{Took, went_of}
 use Rattle.jvm_run.proofs.Passes.{machine_by, marked_by, went_on, within_by}
+use Rattle.jvm_step.specs.Coming.{HasCome}
+use Rattle.jvm_step.proofs.Coming.{has_meaning}
 use Rattle.jvm_run.proofs.advancing.advance.Goals as goal
 
 pub step-requires-clause-machine : goal.step-requires-clause-machine
@@ -15,11 +17,14 @@ step-requires-clause-few c =
     let same = c.in_ok-taken.ensures.took.same (c.in-Steps.is ∙ ap taken.Steps none) in
     subst (λ m. HasFewMonitors m.world) (sym same) c.requires.few
 
-pub step-requires-clause-meaning : goal.step-requires-clause-meaning
-step-requires-clause-meaning c =
-    let p = c.args.p.now in
-    let took = subst (Took p c.args.limit c.args.m.now c.pass_on.new.m) c.in-Steps.is c.in_ok-taken.ensures.took in
-    took.ready.0
+pub pass_on-requires-clause-meaning : goal.pass_on-requires-clause-meaning
+pass_on-requires-clause-meaning c = has_meaning c.args.p.now c.args.m.now c.requires.come
+
+pub step-requires-clause-come : goal.step-requires-clause-come
+step-requires-clause-come c =
+    let none : c.in-Steps.n ≡ 0 = omega (arith, c.if-n-gt0.false) in
+    let same = c.in_ok-taken.ensures.took.same (c.in-Steps.is ∙ ap taken.Steps none) in
+    subst (HasCome c.args.p.now) (sym same) c.requires.come
 
 pub returns-in_ok-stepped-in-Steps-clause-within : goal.returns-in_ok-stepped-in-Steps-clause-within
 returns-in_ok-stepped-in-Steps-clause-within c =
