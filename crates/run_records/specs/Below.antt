@@ -1,5 +1,6 @@
 -- What is passed on of crates below.
-pub use Rattle.jvm_run.specs.Below.{AreNamedOf, AreTablesOf, IsRunnable, Tables}
+pub use Rattle.jvm_run.specs.Below.{AreNamedOf, AreTablesOf, IsAcceptedFor, IsRunnable}
+pub use Rattle.jvm_run.specs.Below.{IsSound, Tables}
 pub use Rattle.jvm_run.specs.Below.jvm_act_contracts_codes_Codes as jvm_act_contracts_codes_Codes
 pub use Rattle.jvm_run.specs.Below.jvm_act_contracts_methods_MethodCode as jvm_act_contracts_methods_MethodCode
 pub use Rattle.jvm_run.specs.Below.jvm_members_contracts_layouts_Layouts as jvm_members_contracts_layouts_Layouts

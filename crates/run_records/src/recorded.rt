@@ -1,6 +1,5 @@
 //! What is recorded of a run.
 
-use class_model::Name;
 use record_rules::RunRecord;
 
 /// What is recorded of a run.
@@ -11,11 +10,4 @@ pub enum Recorded {
     /// long for its length, there are too many names or lines for their count, or the name of the
     /// class that was thrown has a lone surrogate.
     Unwritable,
-    /// No row of the machine applies to an instruction, and there is no record: its class, its
-    /// method by name and descriptor written together, and its number.
-    Stuck {
-        class: Name,
-        method: Name,
-        at: usize,
-    },
 }

@@ -1,14 +1,14 @@
 //! A run of a test, and its record.
 
 ghost use Rattle.std.specs.Prelude.{◌≡◌, ◌+◌, ◌≤◌, ◌<◌, ◌^◌, length, IfOk, OnOk};
-ghost use Rattle.record_rules.specs.Records.{record_of, run};
+ghost use Rattle.record_rules.specs.Records.{run};
 ghost use Rattle.class_table.specs.Table.{look};
-ghost use Rattle.jvm_world.specs.View.{AreClasses};
-ghost use Rattle.jvm_run.specs.Below.{IsRunnable};
+ghost use Rattle.jvm_world.specs.View.{AreClasses, test_of};
+ghost use Rattle.jvm_run.specs.Below.{IsAcceptedFor, IsRunnable};
 ghost use Rattle.jvm_run.specs.Below.{AreTablesOf};
 ghost use Rattle.jvm_run.specs.Result.{IsResultOf};
 ghost use Rattle.run_records.specs.Asking.{asked};
-ghost use Rattle.run_records.specs.Recorded.{AreListsOf, IsRecordedOf, KeepsIfFits, pairs_in};
+ghost use Rattle.run_records.specs.Recorded.{AreListsOf, IsRecordOf, IsRecordedOf, KeepsIfFits, pairs_in};
 
 use crate::consulted::Consulted;
 use crate::fitting::fits_fields;
@@ -16,7 +16,7 @@ use crate::reached::reached;
 use crate::recorded::Recorded;
 use class_model::{ClassId, Memory, Name, Outcome, Seq, SharedBytes};
 use class_table::{Program, Test};
-use jvm_run::{Ending, RunResult, Tables, execute};
+use jvm_run::{RunResult, Tables, execute};
 use machine_rules::Limits;
 use mt_edge::MeterPart;
 use record_rules::RunRecord;
@@ -95,7 +95,7 @@ fn if_fits(entry: RunRecord) -> Recorded
 }
 
 // What is recorded of a run that gave this.
-#[tactic(auto, using(crate::proofs::Made::too_many, crate::proofs::Made::stuck))]
+#[tactic(auto, using(crate::proofs::Made::too_many))]
 fn recorded(
     alloc: Global,
     p: &Program,
@@ -108,27 +108,21 @@ fn recorded(
     ensures { IfOk result (IsRecordedOf (asked p.now test.now limits limit)) }
 {
     let RunResult {
-        ending,
+        outcome,
         steps,
         consulted,
         reached,
     } = given;
-    match ending {
-        Ending::With(outcome) => {
-            if consulted.len() > u32::MAX as usize {
-                return Ok(Recorded::Unwritable);
-            }
-            let lists = lists_of(alloc, p, consulted, &reached)?;
-            let entry = record_by(test, limits, limit, outcome, steps, lists)?;
-            let recorded = if_fits(entry);
-            Ok(recorded)
-        }
-        Ending::Stuck { class, method, at } => Ok(Recorded::Stuck { class, method, at }),
+    if consulted.len() > u32::MAX as usize {
+        return Ok(Recorded::Unwritable);
     }
+    let lists = lists_of(alloc, p, consulted, &reached)?;
+    let entry = record_by(test, limits, limit, outcome, steps, lists)?;
+    let recorded = if_fits(entry);
+    Ok(recorded)
 }
 
-// The record of a run that gave this, if it has one.
-#[tactic(auto, using(crate::proofs::Made::stuck_has_none))]
+// The record of a run that gave this.
 fn made(
     alloc: Global,
     p: &Program,
@@ -136,37 +130,28 @@ fn made(
     limits: Limits,
     limit: u64,
     given: RunResult,
-) -> Result<Option<RunRecord>, Memory>
+) -> Result<RunRecord, Memory>
     requires { IsResultOf p.now given (run (asked p.now test.now limits limit)) }
-    ensures { IfOk result (λ made. made ≡ record_of (asked p.now test.now limits limit)) }
+    ensures { IfOk result (IsRecordOf (asked p.now test.now limits limit)) }
 {
     let RunResult {
-        ending,
+        outcome,
         steps,
         consulted,
         reached,
     } = given;
-    match ending {
-        Ending::With(outcome) => {
-            // no room: lines name places of four bytes
-            if consulted.len() > u32::MAX as usize {
-                return Err(Memory);
-            }
-            let lists = lists_of(alloc, p, consulted, &reached)?;
-            let entry = record_by(test, limits, limit, outcome, steps, lists)?;
-            Ok(Some(entry))
-        }
-        Ending::Stuck {
-            class: _,
-            method: _,
-            at: _,
-        } => Ok(None),
+    // no room: lines name places of four bytes
+    if consulted.len() > u32::MAX as usize {
+        return Err(Memory);
     }
+    let lists = lists_of(alloc, p, consulted, &reached)?;
+    let entry = record_by(test, limits, limit, outcome, steps, lists)?;
+    Ok(entry)
 }
 
-/// Runs a test on a program, for so many steps at most, and gives the record of the run, whether or
-/// not it fits the fields of a history; none where the run is stuck. The list of consulted names has
-/// room for fewer than 2^32, more than class files within the limits can make: a growth past that is
+/// Runs a test on a program that is accepted for it, for so many steps at most, and gives the record
+/// of the run, whether or not it fits the fields of a history. The list of consulted names has room
+/// for fewer than 2^32, more than class files within the limits can make: a growth past that is
 /// refused, as want of memory.
 pub fn make_record(
     alloc: Global,
@@ -176,12 +161,13 @@ pub fn make_record(
     limits: Limits,
     limit: u64,
     part: &mut MeterPart,
-) -> Result<Option<RunRecord>, Memory>
+) -> Result<RunRecord, Memory>
     requires tables { AreTablesOf p.now tables.old }
     requires runnable { IsRunnable (look p.now) }
+    requires accepted { IsAcceptedFor (look p.now) (test_of test.now) }
     requires small { limits.heap < 2 ^ 31 }
     requires room { part.old + limit < 2 ^ 64 }
-    ensures made { IfOk result (λ made. made ≡ record_of (asked p.now test.now limits limit)) }
+    ensures made { IfOk result (IsRecordOf (asked p.now test.now limits limit)) }
     ensures steps { OnOk result (part.new
         ≡ part.old + (run (asked p.now test.now limits limit)).steps) }
     ensures memory { part.new ≤ part.old + (run (asked p.now test.now limits limit)).steps }
@@ -192,10 +178,10 @@ pub fn make_record(
     Ok(made)
 }
 
-/// Runs a test on a program, for so many steps at most, and gives the record of the run: what it
-/// consulted of the program's class files, the lines that it reached, its outcome and its steps.
-/// Where that doesn't fit the fields of a history, this is told, and of a run that is stuck the
-/// place. Steps are counted in the part as by `execute`.
+/// Runs a test on a program that is accepted for it, for so many steps at most, and gives the record
+/// of the run: what it consulted of the program's class files, the lines that it reached, its
+/// outcome and its steps. Where that doesn't fit the fields of a history, this is told. Steps are
+/// counted in the part as by `execute`.
 pub fn record(
     alloc: Global,
     p: &Program,
@@ -207,6 +193,7 @@ pub fn record(
 ) -> Result<Recorded, Memory>
     requires tables { AreTablesOf p.now tables.old }
     requires runnable { IsRunnable (look p.now) }
+    requires accepted { IsAcceptedFor (look p.now) (test_of test.now) }
     requires small { limits.heap < 2 ^ 31 }
     requires room { part.old + limit < 2 ^ 64 }
     ensures entry { IfOk result (IsRecordedOf (asked p.now test.now limits limit)) }

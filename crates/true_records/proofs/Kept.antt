@@ -22,7 +22,6 @@ use Rattle.true_records.specs.Truth.{IsTrueAndFormed}
 pub are_kept : ClassFilesAreAProfile → FittingAreFormed → RecordsAreTrue → (x : Asked) (r : Recorded) → IsReusable x → IsRecordedOf x r → AreKept r
 are_kept ok formed true_are x (recorded.Run r) h is = record { true_is = true_are x r h is.0; form = formed profile x r ok h.asked is.0 is.1 }
 are_kept ok formed true_are x recorded.Unwritable h is = tt
-are_kept ok formed true_are x (recorded.Stuck class method at) h is = tt
 
 steps_case : (b : Bool) (steps old limit : ℕ) → (if b then nat_eq old limit else nat_le steps limit) ≡ true → (if b then nat_eq steps old else nat_le steps old) ≡ true → (if b then nat_eq steps limit else nat_le steps limit) ≡ true
 steps_case true steps old limit fits was = let e : old ≡ limit = eqb-true old limit fits in subst (λ (n : ℕ). nat_eq steps n ≡ true) e was

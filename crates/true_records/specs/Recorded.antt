@@ -5,20 +5,18 @@ use Rattle.run_records.specs.declared.recorded.Recorded.{Recorded}
 use Rattle.run_records.specs.declared.recorded.Recorded.TheVariants as recorded
 use Rattle.run_records.specs.Recorded.{IsRecordedOf}
 use Rattle.true_records.specs.declared.recorded.TrueRecorded.{TrueRecorded}
-use Rattle.true_records.specs.declared.recorded.TrueRecorded.TheVariants.{Run, Unwritable, Stuck}
+use Rattle.true_records.specs.declared.recorded.TrueRecorded.TheVariants.{Run, Unwritable}
 use Rattle.true_records.specs.Truth.{IsTrueAndFormed}
 
 -- The same without what is known of the record.
 abbrev pub recorded_in : TrueRecorded → Recorded
 recorded_in (Run r) = recorded.Run r
 recorded_in Unwritable = recorded.Unwritable
-recorded_in (Stuck class method at) = recorded.Stuck class method at
 
 -- The record, if there is one, is true and has the form of a history.
 abbrev pub AreKept : Recorded → Type 0
 AreKept (recorded.Run r) = IsTrueAndFormed r
 AreKept recorded.Unwritable = ⊤
-AreKept (recorded.Stuck class method at) = ⊤
 
 -- It is what is recorded of the run that is asked for.
 abbrev pub IsTrueRecordedOf : Asked → TrueRecorded → Type 0

@@ -3,7 +3,8 @@
 ghost use Rattle.std.specs.Prelude.{◌≡◌, ◌+◌, ◌≤◌, ◌<◌, ◌^◌, IfOk, OnOk};
 ghost use Rattle.record_rules.specs.Records.{run};
 ghost use Rattle.class_table.specs.Table.{look};
-ghost use Rattle.run_records.specs.Below.{IsRunnable};
+ghost use Rattle.jvm_world.specs.View.{test_of};
+ghost use Rattle.run_records.specs.Below.{IsAcceptedFor, IsRunnable};
 ghost use Rattle.run_records.specs.Below.{AreTablesOf};
 ghost use Rattle.suite_records.specs.Suites.{IsReusable};
 ghost use Rattle.run_records.specs.Asking.{asked};
@@ -32,11 +33,10 @@ fn kept(recorded: Recorded) -> TrueRecorded
             TrueRecorded::Run(entry)
         }
         Recorded::Unwritable => TrueRecorded::Unwritable,
-        Recorded::Stuck { class, method, at } => TrueRecorded::Stuck { class, method, at },
     }
 }
 
-/// Runs a test on a program of class files, for so many steps at most, and gives the record of the
+/// Runs a test on a program of class files that is accepted for it, for so many steps at most, and gives the record of the
 /// run, as `record` of `run_records` does. It is true, and has the form of a history. Steps are
 /// counted in the part as by `execute`.
 pub fn record(
@@ -50,6 +50,7 @@ pub fn record(
 ) -> Result<TrueRecorded, Memory>
     requires tables { AreTablesOf p.now tables.old }
     requires runnable { IsRunnable (look p.now) }
+    requires accepted { IsAcceptedFor (look p.now) (test_of test.now) }
     requires small { limits.heap < 2 ^ 31 }
     requires room { part.old + limit < 2 ^ 64 }
     requires reusable { IsReusable (asked p.now test.now limits limit) }
