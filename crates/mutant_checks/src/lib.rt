@@ -27,7 +27,7 @@ mod tests;
 pub use calls::{apply, edited_parts};
 pub use claims::step;
 pub use list_calls::{class_mutants, row};
-pub use run_calls::{verdicts, viable};
+pub use run_calls::viable;
 pub use selected::{cells, reaches};
 pub use steps::{index_of, long_enough, places};
 pub use table::{claim, close, detect, look, new_table};

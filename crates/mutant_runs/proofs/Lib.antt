@@ -1,7 +1,5 @@
 pub mod ProgramLaws
 pub mod ReadyLaws
-pub mod RunLaws
-pub mod VerdictLaws
 pub mod FitLaws
 pub mod MutantLaws
 pub mod EditLaws

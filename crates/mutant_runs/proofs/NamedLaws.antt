@@ -6,8 +6,8 @@ use Rattle.class_table.specs.Table.{names, name_or_none}
 use Rattle.class_table.proofs.Places.{names_kept}
 use Rattle.lib_core.specs.Known.{IsKnown}
 use Rattle.jvm_world.specs.Classes.{machine_names, AreMachineClasses}
-use Rattle.jvm_run.specs.Below.{Tables}
-use Rattle.jvm_run.specs.Below.{AreNamedOf, AreTablesOf}
+use Rattle.jvm_step.specs.declared.tables.Tables.{Tables}
+use Rattle.jvm_step.specs.Tables.{AreNamedOf, AreTablesOf}
 use Rattle.mutator_ops.specs.declared.mutant.Mutant.{Mutant}
 use Rattle.mutant_runs.specs.Programs.{Makes}
 

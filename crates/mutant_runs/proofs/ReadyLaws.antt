@@ -14,8 +14,8 @@ use Rattle.type_laws.specs.Alike.{HeadsAlike, head_of}
 use Rattle.type_laws.specs.Bounds.{BoundedHaveRoom, HasBoundedCodes}
 use Rattle.type_rules.specs.Rules.{ClassAccepted}
 use Rattle.jvm_world.specs.Finding.{lacks}
-use Rattle.jvm_run.specs.Below.{HasRoomToLand}
-use Rattle.jvm_run.specs.Below.{looked_up}
+use Rattle.jvm_step.specs.Programs.{HasRoomToLand}
+use Rattle.jvm_step.specs.Tables.{looked_up}
 use Rattle.mutant_runs.specs.Codes.{IsBoundedBody, BoundedAreNumbered, PutStayNumbered, BoundedByName}
 use Rattle.mutant_runs.specs.Kept.{PutKeepKinds, PutKeepLibrary, PutStayAccepted}
 use Rattle.mutant_runs.specs.Put.{PutStayAlike}

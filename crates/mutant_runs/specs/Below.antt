@@ -1,2 +1,3 @@
 -- What is passed on of crates below.
-pub use Rattle.jvm_run.specs.Below.{looked_up}
+pub use Rattle.jvm_step.specs.Programs.{IsAcceptedFor, IsSound}
+pub use Rattle.jvm_step.specs.Tables.{looked_up}

@@ -10,7 +10,7 @@ use Rattle.class_link.specs.declared.loaded.EditedFile.{EditedFile}
 use Rattle.class_link.specs.declared.loaded.Loaded.{Loaded}
 use Rattle.class_link.specs.Info.{Info, IsInfo}
 use Rattle.class_table.specs.Table.{number_of, name_at, look, IsProgram}
-use Rattle.jvm_run.specs.Below.{IsRunnable}
+use Rattle.jvm_step.specs.Programs.{IsRunnable}
 use Rattle.type_verifier.specs.Programs.{AreNumbered, IsLibraryAccepted}
 use Rattle.mutator_ops.specs.declared.mutant.Mutant.{Mutant}
 use Rattle.mutant_runs.specs.Files.{made_file}

@@ -5,7 +5,7 @@ use Rattle.class_table.specs.Faults.{HasRightKinds}
 use Rattle.class_table.specs.Table.{look}
 use Rattle.type_rules.specs.Rules.{Accepted}
 use Rattle.jvm_world.specs.Finding.{lacks}
-use Rattle.jvm_run.specs.Below.{looked_up}
+use Rattle.jvm_step.specs.Tables.{looked_up}
 use Rattle.mutant_runs.specs.Codes.{IsBoundedBody}
 
 -- Supers are of the right kinds, the code of each class is accepted and within the bounds of a

@@ -1,5 +1,5 @@
 -- The runs of the tests on a mutant, and what they say of it (this project's own).
-use Rattle.std.specs.Prelude.{ℕ, Bool, ◌&&◌, ◌==◌, List, map, Option, Some, None, sum_by}
+use Rattle.std.specs.Prelude.{ℕ, Bool, ◌&&◌, ◌==◌, List, map, Option, Some, None, option_and_then, sum_by}
 use Rattle.std.specs.List.{list_any, zip}
 use Rattle.class_model.specs.declared.outcome.Outcome.{Outcome}
 use Rattle.class_model.specs.declared.outcome.Outcome.TheVariants as outcome
@@ -9,9 +9,7 @@ use Rattle.machine_rules.specs.Runs.{Ending, Ran, limit_of, run_of}
 use Rattle.machine_rules.specs.declared.machine.Limits.{Limits}
 use Rattle.class_table.specs.declared.scripted.Test.{Test}
 use Rattle.jvm_world.specs.View.{test_of}
-use Rattle.jvm_run.specs.declared.ending.End.{End}
-use Rattle.jvm_run.specs.declared.ending.End.TheVariants as end
-use Rattle.jvm_run.specs.Ending.{end_in}
+use Rattle.record_rules.specs.Outcomes.{outcome_at}
 use Rattle.mutator_ops.specs.declared.mutant.Mutant.{Mutant}
 use Rattle.mutator_ops.specs.declared.mutant.State.{State}
 use Rattle.mutator_ops.specs.declared.mutant.State.TheVariants as state
@@ -53,14 +51,9 @@ detected_by (outcome.Failed c) = Some (state.Killed c)
 detected_by outcome.TimedOut = Some state.TimedOut
 detected_by outcome.MemoryOut = Some state.MemoryError
 
--- The same by the end of a run, which may be stuck.
-abbrev pub detected_at : End → Option State
-detected_at (end.With o) = detected_by o
-detected_at end.Stuck = Some state.RunError
-
--- The same as the definitions say how it ends.
+-- The same by the end of a run. One that is stuck, which no run of accepted code is, gives none.
 abbrev pub detected : Ending → Option State
-detected e = detected_at (end_in e)
+detected e = option_and_then detected_by (outcome_at e)
 
 -- ---- bounds
 

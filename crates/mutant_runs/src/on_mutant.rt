@@ -1,36 +1,23 @@
-//! The program with a mutant's edit in it.
+//! The class that a mutant's edit makes, and whether it is accepted.
 
-ghost use Rattle.std.specs.Prelude.{◌≡◌, ◌+◌, ◌≤◌, ◌<◌, ◌^◌, true, All, length, IfOk, OnOk};
+ghost use Rattle.std.specs.Prelude.{IfOk, OnOk};
 ghost use Rattle.class_link.specs.Info.{IsInfo};
-ghost use Rattle.class_table.specs.Table.{look, IsProgram};
-ghost use Rattle.jvm_run.specs.Below.{AreNamedOf, AreTablesOf};
+ghost use Rattle.class_table.specs.Table.{IsProgram};
 ghost use Rattle.mutant_runs.specs.Edited.{IsEditBy, IsEditOfMutant};
 ghost use Rattle.mutant_runs.specs.Files.{IsKept};
 ghost use Rattle.mutant_runs.specs.Programs.{files_of, IsMutantOf, ComesOf, Makes};
-ghost use Rattle.mutant_runs.specs.Promises.{TellsViable, IsByRuns, steps_run};
-ghost use Rattle.mutant_runs.specs.Promises.{IsVerdict, steps_for};
+ghost use Rattle.mutant_runs.specs.Promises.{TellsViable};
 ghost use Rattle.mutant_runs.specs.Ready.{IsReady};
-ghost use Rattle.mutant_runs.specs.Runs.{most_steps};
 
 use crate::class_bytes::ClassBytes;
 use crate::edited_file::edited_file;
-use crate::laws::{
-    edited_are_ready, edits_are_judged_by_their_method, edits_make, entries_add_alone,
-    ready_may_run,
-};
-use crate::test_set::TestSet;
-use crate::tests_run::run_tests;
-use crate::verdict::verdict_by;
-use class_model::{ClassId, Memory, Seq};
-use class_table::{ClassBody, ClassInfo, Program, Test};
-use jvm_run::Tables;
-use machine_rules::Limits;
-use mt_edge::MeterPart;
+use crate::laws::{edits_are_judged_by_their_method, edits_make, entries_add_alone};
+use class_model::{ClassId, Memory};
+use class_table::{ClassBody, ClassInfo, Program};
 use mutant_apply::parts_are_of_applied;
-use mutator_ops::{Mutant, Verdict};
+use mutator_ops::Mutant;
 use std::alloc::Global;
 use std::sync::Arc;
-use type_laws::first_faults_are_found;
 use type_verifier::fault_of_method;
 
 // The form of a program is known. Only the prover reads this.
@@ -123,96 +110,4 @@ pub fn is_viable(
     };
     let viable = is_accepted(alloc, program, mutant, id, &edited)?;
     Ok(viable)
-}
-
-// The verdict on a mutant by the tests of these numbers, which cover it, on this program, which it
-// is run as. The tables are those of a program whose classes have the same names.
-fn run_on(
-    alloc: Global,
-    program: &Program,
-    tables: &mut Tables,
-    tests: &[Test],
-    steps: &[u64],
-    covering: Seq<u32>,
-    limits: Limits,
-    part: &mut MeterPart,
-) -> Result<Verdict, Memory>
-    requires ready { IsReady program.now }
-    requires named { AreNamedOf program.now tables.old }
-    requires small { limits.heap < 2 ^ 31 }
-    requires numbers { All (λ k. k < length tests.now) covering }
-    requires few { length covering ≤ 65535 }
-    requires each { length steps.now ≡ length tests.now }
-    requires timed { All (λ n. n ≤ most_steps) steps.now }
-    requires room { part.old < 2 ^ 63 }
-    ensures told { IfOk result (IsByRuns limits program.now tests.now steps.now covering) }
-    ensures steps { OnOk result (part.new ≡ part.old
-        + steps_run limits program.now tests.now steps.now covering) }
-    ensures most { part.new ≤ part.old
-        + steps_run limits program.now tests.now steps.now covering }
-    ensures tables { AreTablesOf program.now tables.new }
-{
-    is_program(program);
-    ready_may_run();
-    tables.renew(alloc, program);
-    let killer = run_tests(
-        alloc,
-        program,
-        tables,
-        tests,
-        steps,
-        covering.as_slice(),
-        limits,
-        part,
-    )?;
-    let verdict = verdict_by(alloc, covering, killer)?;
-    Ok(verdict)
-}
-
-/// The verdict on a mutant that is viable, by the tests of these numbers, which cover it. The
-/// program is as before afterwards. The tables are lent to one mutant after the other: of what they
-/// hold the names of classes alone are taken on.
-pub fn run_mutant(
-    alloc: Global,
-    program: &mut Program,
-    tables: &mut Tables,
-    set: &TestSet,
-    mutant: &Mutant,
-    covering: Seq<u32>,
-    part: &mut MeterPart,
-    kept: &mut Option<ClassBytes>,
-) -> Result<Verdict, Memory>
-    requires ready { IsReady program.old }
-    requires named { AreNamedOf program.old tables.old }
-    requires numbers { All (λ k. k < length set.now.tests.now) covering }
-    requires few { length covering ≤ 65535 }
-    requires room { part.old < 2 ^ 63 }
-    requires fit { IsMutantOf (files_of program.old) mutant.now }
-    requires viable { TellsViable program.old mutant.now true }
-    requires kept { IsKept program.old kept.old }
-    ensures told { IfOk result
-        (IsVerdict set.now.limits program.old set.now.tests.now set.now.steps.now
-        covering mutant.now) }
-    ensures steps { OnOk result (part.new ≡ part.old
-        + steps_for set.now.limits program.old set.now.tests.now set.now.steps.now
-        covering mutant.now) }
-    ensures most { part.new ≤ part.old
-        + steps_for set.now.limits program.old set.now.tests.now set.now.steps.now
-        covering mutant.now }
-    ensures same { program.new ≡ program.old }
-    ensures named { AreNamedOf program.old tables.new }
-    ensures kept { OnOk result (IsKept program.old kept.new) }
-{
-    is_program(program);
-    edited_are_ready();
-    first_faults_are_found();
-    let Some((id, edited)) = edited_class(alloc, program, mutant, kept)? else {
-        unreachable!()
-    };
-    let original = program.swap(id, edited);
-    let verdict = run_on(
-        alloc, program, tables, set.tests, set.steps, covering, set.limits, part,
-    );
-    let _edited = program.swap(id, original);
-    verdict
 }
