@@ -53,8 +53,6 @@ pub enum State {
     TimedOut,
     /// The first test that detects it passes the heap's limit.
     MemoryError,
-    /// The first test that detects it is stuck: the machine has no row for what it meets.
-    RunError,
     /// No test detects it.
     Survived,
 }

@@ -66,7 +66,6 @@ fn state_of(alloc: Global, number: u8) -> Result<State, Memory> {
         3 => Ok(State::Killed(Cause::Thrown(ascii(alloc, "p/q/E$1")?))),
         4 => Ok(State::TimedOut),
         5 => Ok(State::MemoryError),
-        6 => Ok(State::RunError),
         _ => Ok(State::Survived),
     }
 }
@@ -114,7 +113,7 @@ fn input_of(
 fn files_stand_in_byte_order_with_sources_tests_and_killers(rt: HostRuntime) -> Result<(), Fail> {
     let alloc = rt.alloc();
     let mut verdicts = Seq::new(alloc);
-    verdicts.push(verdict(alloc, State::RunError, [9].as_slice(), [9].as_slice())?)?;
+    verdicts.push(verdict(alloc, State::MemoryError, [9].as_slice(), [9].as_slice())?)?;
     let thrown = State::Killed(Cause::Thrown(ascii(alloc, "java/lang/Error")?));
     verdicts.push(verdict(alloc, thrown, [1].as_slice(), [0, 1].as_slice())?)?;
     verdicts.push(verdict(alloc, State::NoCoverage, [].as_slice(), [].as_slice())?)?;
@@ -148,7 +147,7 @@ fn files_stand_in_byte_order_with_sources_tests_and_killers(rt: HostRuntime) -> 
         .push(Seq::from_slice(alloc, "class A {}\n".as_bytes())?)?;
     let text = report_text(alloc, &input)?;
     let wanted =
-        "{\"files\":{\"A.java\":{\"language\":\"java\",\"mutants\":[{\"coveredBy\":[\"T.neg\",\"T.zero\"],\"id\":\"A.f(I)Z@1:CONDITIONALS_BOUNDARY\",\"killedBy\":[\"T.zero\"],\"location\":{\"end\":{\"column\":2,\"line\":3},\"start\":{\"column\":1,\"line\":3}},\"mutatorName\":\"CONDITIONALS_BOUNDARY\",\"status\":\"Killed\",\"statusReason\":\"java.lang.Error\"},{\"coveredBy\":[],\"id\":\"A.f(I)Z@1:MATH\",\"location\":{\"end\":{\"column\":2,\"line\":7},\"start\":{\"column\":1,\"line\":7}},\"mutatorName\":\"MATH\",\"status\":\"NoCoverage\"}],\"source\":\"class A {}\\n\"},\"p/B.java\":{\"language\":\"java\",\"mutants\":[{\"coveredBy\":[],\"id\":\"p/B.f(I)Z@1:MATH\",\"location\":{\"end\":{\"column\":2,\"line\":1},\"start\":{\"column\":1,\"line\":1}},\"mutatorName\":\"MATH\",\"status\":\"RuntimeError\",\"statusReason\":\"RUN_ERROR\"}],\"source\":\"\"}},\"schemaVersion\":\"1\",\"testFiles\":{\"T.java\":{\"tests\":[{\"id\":\"T.neg\",\"name\":\"neg\"}]}},\"thresholds\":{\"high\":80,\"low\":60}}";
+        "{\"files\":{\"A.java\":{\"language\":\"java\",\"mutants\":[{\"coveredBy\":[\"T.neg\",\"T.zero\"],\"id\":\"A.f(I)Z@1:CONDITIONALS_BOUNDARY\",\"killedBy\":[\"T.zero\"],\"location\":{\"end\":{\"column\":2,\"line\":3},\"start\":{\"column\":1,\"line\":3}},\"mutatorName\":\"CONDITIONALS_BOUNDARY\",\"status\":\"Killed\",\"statusReason\":\"java.lang.Error\"},{\"coveredBy\":[],\"id\":\"A.f(I)Z@1:MATH\",\"location\":{\"end\":{\"column\":2,\"line\":7},\"start\":{\"column\":1,\"line\":7}},\"mutatorName\":\"MATH\",\"status\":\"NoCoverage\"}],\"source\":\"class A {}\\n\"},\"p/B.java\":{\"language\":\"java\",\"mutants\":[{\"coveredBy\":[],\"id\":\"p/B.f(I)Z@1:MATH\",\"location\":{\"end\":{\"column\":2,\"line\":1},\"start\":{\"column\":1,\"line\":1}},\"mutatorName\":\"MATH\",\"status\":\"RuntimeError\",\"statusReason\":\"MEMORY_ERROR\"}],\"source\":\"\"}},\"schemaVersion\":\"1\",\"testFiles\":{\"T.java\":{\"tests\":[{\"id\":\"T.neg\",\"name\":\"neg\"}]}},\"thresholds\":{\"high\":80,\"low\":60}}";
     assert!(rt; text.as_slice() == wanted.as_bytes());
     Ok(())
 }
@@ -170,8 +169,7 @@ fn each_state_has_its_status_and_its_count(rt: HostRuntime) -> Result<(), Fail> 
         (3, "\"Killed\",\"statusReason\":\"p.q.E$1\""),
         (4, "\"Timeout\""),
         (5, "\"RuntimeError\",\"statusReason\":\"MEMORY_ERROR\""),
-        (6, "\"RuntimeError\",\"statusReason\":\"RUN_ERROR\""),
-        (7, "\"Survived\""),
+        (6, "\"Survived\""),
     ] {
         let state = state_of(alloc, number)?;
         verdicts.push(verdict(alloc, state, [].as_slice(), [].as_slice())?)?;
@@ -186,7 +184,7 @@ fn each_state_has_its_status_and_its_count(rt: HostRuntime) -> Result<(), Fail> 
     }
     let text = summary_text(alloc, &verdicts, 3)?;
     let wanted =
-        "mutants 8 killed 2 survived 1 no_coverage 1 timed_out 1 non_viable 1 errors 2 reused 3\n";
+        "mutants 7 killed 2 survived 1 no_coverage 1 timed_out 1 non_viable 1 errors 1 reused 3\n";
     assert!(rt; text.as_slice() == wanted.as_bytes());
     Ok(())
 }

@@ -15,7 +15,6 @@ one_word state.NoCoverage = refl
 one_word (state.Killed c) = refl
 one_word state.TimedOut = refl
 one_word state.MemoryError = refl
-one_word state.RunError = refl
 one_word state.Survived = refl
 
 six : (a b c d e f m n o p q r k : ℕ) → a + b + c + d + e + f ≡ 1 → m + n + o + p + q + r ≡ k → (a + m) + (b + n) + (c + o) + (d + p) + (e + q) + (f + r) ≡ 1 + k

@@ -19,7 +19,7 @@ fn status(state: &State) -> &'static str
         State::NoCoverage => "NoCoverage",
         State::Killed(_) => "Killed",
         State::TimedOut => "Timeout",
-        State::MemoryError | State::RunError => "RuntimeError",
+        State::MemoryError => "RuntimeError",
         State::Survived => "Survived",
     }
 }
@@ -34,14 +34,13 @@ fn cause_text(alloc: Global, cause: &Cause) -> Result<String, Memory>
     }
 }
 
-// Why the test that kills failed, or which of the two states that share a status it is.
+// Why the test that kills failed, or that it passed the heap.
 fn status_reason(alloc: Global, state: &State) -> Result<Option<String>, Memory>
     ensures { IfOk result (λ reason. option_map string_bytes reason ≡ status_reason state.now) }
 {
     match state {
         State::Killed(cause) => Ok(Some(cause_text(alloc, cause)?)),
         State::MemoryError => Ok(Some(String::from_str(alloc, "MEMORY_ERROR")?)),
-        State::RunError => Ok(Some(String::from_str(alloc, "RUN_ERROR")?)),
         State::NonViable | State::NoCoverage | State::TimedOut | State::Survived => Ok(None),
     }
 }

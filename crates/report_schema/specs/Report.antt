@@ -49,7 +49,6 @@ status state.NoCoverage = codes "NoCoverage"
 status (state.Killed c) = codes "Killed"
 status state.TimedOut = codes "Timeout"
 status state.MemoryError = codes "RuntimeError"
-status state.RunError = codes "RuntimeError"
 status state.Survived = codes "Survived"
 
 -- why a test failed: the class of what it threw, with `.` for `/`
@@ -57,11 +56,10 @@ abbrev pub cause_text : Cause → List ℕ
 cause_text cause.Returned = codes "no exception"
 cause_text (cause.Thrown class) = printed (dotted class)
 
--- why the test that kills failed, or which of the two states that share a status it is
+-- why the test that kills failed, or that it passed the heap
 abbrev pub status_reason : State → Option (List ℕ)
 status_reason (state.Killed c) = Some (cause_text c)
 status_reason state.MemoryError = Some (codes "MEMORY_ERROR")
-status_reason state.RunError = Some (codes "RUN_ERROR")
 status_reason other = None
 
 -- a line as the schema counts, from 1: where no line is stated, line 1

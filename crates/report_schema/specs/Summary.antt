@@ -27,7 +27,6 @@ is_not_viable other = false
 -- the mutant's run ended neither by itself nor by its limit of steps
 abbrev pub is_error : State → Bool
 is_error state.MemoryError = true
-is_error state.RunError = true
 is_error other = false
 
 abbrev pub counted : (State → Bool) → List Verdict → ℕ

@@ -40,7 +40,7 @@ fn is_not_viable(state: &State) -> bool
 fn is_error(state: &State) -> bool
     ensures { result ≡ is_error state.now }
 {
-    matches!(state, State::MemoryError | State::RunError)
+    matches!(state, State::MemoryError)
 }
 
 // How many mutants there are, and how many are counted under which word.
@@ -85,7 +85,7 @@ fn put_count(alloc: Global, line: &mut Bytes, word: &str, count: u64) -> Result<
 }
 
 /// The line that a run puts out: how many mutants there are, how many are in which state, and how
-/// many new records old ones stand for. MEMORY_ERROR and RUN_ERROR count as errors.
+/// many new records old ones stand for. MEMORY_ERROR counts as an error.
 pub fn summary_text(alloc: Global, verdicts: &Seq<Verdict>, reused: u64) -> Result<Bytes, Memory>
     ensures { IfOk result (λ text. text ≡ Summary verdicts.now reused) }
 {
