@@ -1,6 +1,6 @@
 -- A record says what its run says.
 use Rattle.std.proofs.Common.{◌≡◌, ◌∙◌, ℕ, zero, suc, Bool, true, false, List, [], ◌∷◌, map, Option, Some, refl, sym, ap, subst, arith}
-use Rattle.std.specs.Prelude.{◌&&◌, ◌||◌, nat_eq, nat_lt, slice_get, if◌then◌else◌}
+use Rattle.std.specs.Prelude.{◌&&◌, ◌||◌, nat_eq, nat_lt, option_and_then, slice_get, if◌then◌else◌}
 use Rattle.std.specs.List.{fold, list_any}
 use Rattle.std.specs.Option.{option_map_or}
 use Rattle.std.proofs.lemmas.Bool.{ltb-false, eq-eqb}
@@ -8,7 +8,7 @@ use Rattle.std.proofs.lemmas.Cmp.{nat_list_eq_equiv}
 use Rattle.class_model.specs.declared.outcome.Outcome.{Outcome}
 use Rattle.program_rules.specs.Names.{Name, same, is_listed}
 use Rattle.machine_rules.specs.Outcomes as machine
-use Rattle.machine_rules.specs.Runs.{Ending, With, StuckAt}
+use Rattle.machine_rules.specs.Runs.{Ending}
 use Rattle.machine_rules.specs.Steps.{is_reached}
 use Rattle.machine_laws.specs.Consulted.{IsLibraryWhole}
 use Rattle.machine_laws.specs.Walks.{LinesAreListed, RunsListLines}
@@ -18,7 +18,7 @@ use Rattle.record_rules.specs.Profiles.{Held}
 use Rattle.record_rules.specs.Outcomes.{outcome_at}
 use Rattle.record_rules.specs.Records.{run, place_in, is_before, put_pair, with_bytes}
 use Rattle.reuse_laws.proofs.Reused.{has_outcome}
-use Rattle.reuse_laws.proofs.Tests.{some_is, names_are, or_first, or_second}
+use Rattle.reuse_laws.proofs.Tests.{names_are, or_first, or_second}
 use Rattle.class_records.specs.Laws.{ClassFilesAreAProfile}
 use Rattle.class_records.specs.Profile.{profile}
 use Rattle.suite_jobs.specs.Laws.{SaysRun, RecordsSayRuns}
@@ -122,12 +122,7 @@ module _ (m : Mutant) (held : Held) (ns : List Name) where
 -- ---- what it says of a mutant
 
 same_state : (e : Ending) (o : Outcome) → outcome_at e ≡ Some o → detected_by o ≡ detected e
-same_state (With machine.Passed) o e = ap detected_by (sym (some_is _ o e))
-same_state (With (machine.Failed machine.Returned)) o e = ap detected_by (sym (some_is _ o e))
-same_state (With (machine.Failed (machine.Thrown n))) o e = ap detected_by (sym (some_is _ o e))
-same_state (With machine.TimedOut) o e = ap detected_by (sym (some_is _ o e))
-same_state (With machine.MemoryOut) o e = ap detected_by (sym (some_is _ o e))
-same_state (StuckAt place) o e = absurd cc
+same_state e o h = sym (ap (option_and_then detected_by) h)
 
 pub say_runs : ClassFilesAreAProfile → RunsListLines → RecordsSayRuns
 say_runs ok lines x r q e =

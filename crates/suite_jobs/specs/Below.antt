@@ -1,4 +1,5 @@
 -- What is passed on of crates below.
+pub use Rattle.suite_records.specs.Below.{SafeAreAccepted, ViableAreAccepted}
 pub use Rattle.suite_records.specs.Below.{AllPass, FitsProgram, FoundTestsFit, IsListed, IsMutated}
 pub use Rattle.suite_records.specs.Below.{IsSafe, IsSafeMutant, NotStuckThere, ReachingIsAlike}
 pub use Rattle.suite_records.specs.Below.{SuitesAreSafe, ViableAreNeverStuck, all_verdicts}

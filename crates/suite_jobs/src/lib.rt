@@ -17,7 +17,8 @@ pub use suite_records::{
     ClassBytes, ProgramEnd, ProgramFault, covering_tests, edited_are_ready, edited_class,
     found_are_own_tests, found_tests_fit, mutants_are_of, mutants_are_reached_alike,
     mutants_are_reusable, not_viable, originals_are_reusable, program_of, ready_may_run,
-    suites_are_safe, true_records_change_nothing, viable, viable_mutants_are_never_stuck,
+    safe_programs_are_accepted, suites_are_safe, true_records_change_nothing, viable,
+    viable_mutants_are_accepted, viable_mutants_are_never_stuck,
 };
 use type_laws::accepted_code_is_never_stuck;
 

@@ -7,10 +7,11 @@ use Rattle.std.proofs.lemmas.List.Elements.{recursion_from_All, All-from_recursi
 use Rattle.program_rules.specs.Programs.{Look}
 use Rattle.machine_rules.specs.declared.machine.Limits.{Limits}
 use Rattle.type_rules.specs.Faults.{Placed, class_fault}
+use Rattle.type_rules.specs.References.{classes_of}
 use Rattle.type_rules.specs.Rules.{ClassAccepted}
 use Rattle.type_laws.specs.Alike.{EditedStaysAccepted}
 use Rattle.type_laws.specs.Faults.{FaultlessAreAccepted}
-use Rattle.type_laws.specs.Soundness.{IsStuck, NeverStuck}
+use Rattle.type_laws.specs.Soundness.{IsBuilt, IsStuck, NeverStuck}
 use Rattle.program_laws.specs.Ordered.{OrderedIsBuilt}
 use Rattle.machine_laws.specs.Edit.{Edit, IsEdited}
 use Rattle.class_link.specs.Info.{Info}
@@ -23,7 +24,7 @@ use Rattle.suite_program.specs.Below.{mutant_run}
 use Rattle.library_laws.specs.Linked.{descriptors}
 use Rattle.suite_laws.specs.Edited.{MutantsAreEdits}
 use Rattle.suite_laws.specs.Covered.{edited_run, NotStuckThere, SelectedSuffice}
-use Rattle.suite_laws.specs.Accepted.{IsSafeMutant, FitsProgram, ViableAreNeverStuck, SelectedAlwaysSuffice}
+use Rattle.suite_laws.specs.Accepted.{IsSafe, IsSafeMutant, FitsProgram, SafeAreAccepted, ViableAreAccepted, ViableAreNeverStuck, SelectedAlwaysSuffice}
 use Rattle.suite_laws.proofs.Alike.{heads, others, built, faults, library, layout, script}
 use Rattle.suite_laws.proofs.Kept.{linked}
 
@@ -39,8 +40,25 @@ class_accepted law e p p' ed none =
 
 -- ---- the laws
 
-pub never_stuck : MutantsAreEdits → FaultlessAreAccepted → EditedStaysAccepted → OrderedIsBuilt → NeverStuck → ViableAreNeverStuck
-never_stuck edits faultless stays order sound p m p' t q limit y fits stuck =
+was_built : OrderedIsBuilt → (p : List Info) → IsSafe p → IsBuilt (classes_of (look p))
+was_built order p s = order (look p) (record { present = s.program.present; kinds = s.kinds; ranks = s.program.ranks }) s.arrays
+
+pub safe_accepted : OrderedIsBuilt → SafeAreAccepted
+safe_accepted order p t s fits = record {
+  program = record {
+    built = was_built order p s;
+    faults = s.faults;
+    library = s.library;
+    layout = s.layout;
+    meanings = descriptors;
+    linked = s.linked;
+    accepted = s.accepted;
+  };
+  script = fits;
+}
+
+pub viable_accepted : MutantsAreEdits → FaultlessAreAccepted → EditedStaysAccepted → OrderedIsBuilt → ViableAreAccepted
+viable_accepted edits faultless stays order p m p' t y fits =
     let x = edits p m p' y.mutated in
     let e = x.edit in
     let ed = x.edited in
@@ -48,16 +66,24 @@ never_stuck edits faultless stays order sound p m p' t q limit y fits stuck =
     let taken : with_accepted m.class p' ≡ Some p' = sym (ap (option_and_then (with_accepted m.class)) y.mutated.made) ∙ y.accepted in
     let none : class_fault p' m.class ≡ None = none_found p' (class_fault p' m.class) taken in
     let class = class_accepted faultless e (look p) p' ed (ap (class_fault p') x.class ∙ none) in
-    let was_built = order (look p) (record { present = s.program.present; kinds = s.kinds; ranks = s.program.ranks }) s.arrays in
-    sound p' descriptors (test_of t) q limit
-    (built e (look p) p' ed was_built)
-    (faults e (look p) p' ed s.faults)
-    (library e (look p) p' ed s.library)
-    (layout e (look p) p' ed s.layout)
-    (linked e (look p) p' ed descriptors s.linked x.meant)
-    (stays (look p) p' e.class (heads e (look p) p' ed) (others e (look p) p' ed) s.accepted class)
-    (script e (look p) p' ed None (test_of t).script fits)
-    stuck
+    record {
+      program = record {
+        built = built e (look p) p' ed (was_built order p s);
+        faults = faults e (look p) p' ed s.faults;
+        library = library e (look p) p' ed s.library;
+        layout = layout e (look p) p' ed s.layout;
+        meanings = descriptors;
+        linked = linked e (look p) p' ed descriptors s.linked x.meant;
+        accepted = stays (look p) p' e.class (heads e (look p) p' ed) (others e (look p) p' ed) s.accepted class;
+      };
+      script = script e (look p) p' ed None (test_of t).script fits;
+    }
+
+pub never_stuck : NeverStuck → ViableAreAccepted → ViableAreNeverStuck
+never_stuck sound accepted p m p' t q limit y fits stuck =
+    let x = accepted p m p' t y fits in
+    let s = x.program in
+    sound p' s.meanings (test_of t) q limit s.built s.faults s.library s.layout s.linked s.accepted x.script stuck
 
 module _ (p : List Info) (m : Mutant) (p' : Look) (q : Limits) (limit : ℕ) (y : IsSafeMutant p m p') (law : ViableAreNeverStuck) where
   goes_past : (t : Test) → FitsProgram p t → NotStuckThere m (edited_run p p' t q limit)

@@ -14,7 +14,7 @@ use Rattle.class_table.specs.Faults.{HasRightKinds}
 use Rattle.class_table.specs.Table.{IsProgram, look}
 use Rattle.jvm_world.specs.View.{test_of}
 use Rattle.mutator_ops.specs.declared.mutant.Mutant.{Mutant}
-use Rattle.suite_program.specs.Below.{files_of, viable}
+use Rattle.suite_program.specs.Below.{IsAcceptedFor, files_of, viable}
 use Rattle.library_laws.specs.Linked.{descriptors}
 use Rattle.suite_laws.specs.Edited.{IsMutated}
 use Rattle.suite_laws.specs.Covered.{AllPass, SelectedGive}
@@ -37,11 +37,22 @@ pub record IsSafe (p : List Info) : Type 0 where
 abbrev pub FitsProgram : List Info → Test → Type 0
 FitsProgram p t = ScriptFits (look p) None (test_of t).script
 
+-- Such a test may be run on such a program.
+abbrev pub SafeAreAccepted : Type 0
+SafeAreAccepted =
+    (p : List Info) (t : Test) → IsSafe p → FitsProgram p t → IsAcceptedFor (look p) (test_of t)
+
 -- A mutant that is viable, of such a program.
 pub record IsSafeMutant (p : List Info) (m : Mutant) (p' : Look) : Type 0 where
   pub safe : IsSafe p
   pub mutated : IsMutated p m p'
   pub accepted : viable (files_of p) (look p) m ≡ Some p'
+
+-- The test may be run on it, too.
+abbrev pub ViableAreAccepted : Type 0
+ViableAreAccepted =
+    (p : List Info) (m : Mutant) (p' : Look) (t : Test) → IsSafeMutant p m p' →
+    FitsProgram p t → IsAcceptedFor p' (test_of t)
 
 -- No run of a test on it is stuck.
 abbrev pub ViableAreNeverStuck : Type 0

@@ -1,4 +1,5 @@
 -- What is passed on of crates below.
+pub use Rattle.suite_program.specs.Below.{IsAcceptedFor, IsSound}
 pub use Rattle.suite_program.specs.Below.{edited, files_of, viable, with_accepted, with_class}
 pub use Rattle.suite_program.specs.Below.{detected, detected_by, is_at, reaches, runs_on}
 unfoldable pub use Rattle.suite_program.specs.Below.{mutant_run}

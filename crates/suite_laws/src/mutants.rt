@@ -5,6 +5,7 @@
 
 ghost use Rattle.suite_laws.specs.Edited.{ListedAreMutated, MutantsAreEdits, IntJumpsGoOn, IntJumpsAreExchanged};
 ghost use Rattle.suite_laws.specs.Covered.{UnreachedIsAlike, ReachingIsAlike, CoveringIsAlike, SelectedSuffice};
+ghost use Rattle.suite_laws.specs.Accepted.{SafeAreAccepted, ViableAreAccepted};
 ghost use Rattle.suite_laws.specs.Accepted.{ViableAreNeverStuck, SelectedAlwaysSuffice};
 ghost use Rattle.suite_laws.specs.Witness.{PremisesAreMet};
 
@@ -91,14 +92,28 @@ pub fn selected_tests_suffice()
     mutants_are_covered_alike();
 }
 
-/// No run on a viable mutant of a program that is built and accepted is stuck.
-pub fn viable_mutants_are_never_stuck()
-    ensures { ViableAreNeverStuck }
+/// A program that is built and accepted is so as those ask who run tests on it.
+pub fn safe_programs_are_accepted()
+    ensures { SafeAreAccepted }
+{
+    ordered_is_built();
+}
+
+/// So is the program of a viable mutant of it.
+pub fn viable_mutants_are_accepted()
+    ensures { ViableAreAccepted }
 {
     mutants_are_edits();
     first_faults_are_found();
     an_edit_is_judged_by_its_class();
     ordered_is_built();
+}
+
+/// No run on a viable mutant of a program that is built and accepted is stuck.
+pub fn viable_mutants_are_never_stuck()
+    ensures { ViableAreNeverStuck }
+{
+    viable_mutants_are_accepted();
     accepted_code_is_never_stuck();
 }
 

@@ -1,4 +1,5 @@
 -- What is passed on of crates below.
+pub use Rattle.mutant_runs.specs.Below.{IsAcceptedFor, IsSound}
 pub use Rattle.mutant_runs.specs.Edited.{EditedAreReady, EditsMake, IsEditBy, ReadyMayRun}
 pub use Rattle.mutant_runs.specs.Files.{IsKept}
 pub use Rattle.mutant_runs.specs.Laws.{MutantsAreOf}

@@ -1,4 +1,5 @@
 -- What is passed on of crates below.
+pub use Rattle.suite_laws.specs.Accepted.{SafeAreAccepted, ViableAreAccepted}
 pub use Rattle.suite_laws.specs.Accepted.{FitsProgram, IsSafe, IsSafeMutant, SelectedAlwaysSuffice}
 pub use Rattle.suite_laws.specs.Accepted.{ViableAreNeverStuck}
 pub use Rattle.suite_laws.specs.Below.{class_file, classes_in, detected, detected_by, edited}

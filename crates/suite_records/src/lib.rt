@@ -22,8 +22,9 @@ use suite_laws::{mutant_laws_are_of_use, mutants_are_edits, programs_have_files}
 pub use suite_laws::{
     ClassBytes, ProgramEnd, ProgramFault, covering_tests, edited_are_ready, edited_class,
     edits_make, found_tests_fit, mutants_are_of, mutants_are_reached_alike, not_viable, program_of,
-    ready_may_run, selected_tests_always_suffice, suites_are_safe, unreached_mutants_run_alike,
-    viable, viable_mutants_are_never_stuck,
+    ready_may_run, safe_programs_are_accepted, selected_tests_always_suffice, suites_are_safe,
+    unreached_mutants_run_alike, viable, viable_mutants_are_accepted,
+    viable_mutants_are_never_stuck,
 };
 use test_laws::{accepted_declare_once, edits_keep_tests, found_are_tests_of, rising_ends};
 

@@ -2,4 +2,4 @@ use Rattle.suite_laws.proofs.AcceptedLaws as accepted
 use Rattle.suite_laws.proofs.mutants.viable_mutants_are_never_stuck.Goals as goal
 
 pub returns : goal.returns
-returns c = accepted.never_stuck c.mutants_are_edits.ensures c.first_faults_are_found.ensures.accepted c.an_edit_is_judged_by_its_class.ensures c.ordered_is_built.ensures c.accepted_code_is_never_stuck.ensures
+returns c = accepted.never_stuck c.accepted_code_is_never_stuck.ensures c.viable_mutants_are_accepted.ensures
