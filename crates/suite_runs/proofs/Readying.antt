@@ -1,5 +1,5 @@
 -- What is prepared for the cells of a job, step by step.
-use Rattle.std.proofs.Common.{◌≡◌, ◌∙◌, ℕ, zero, suc, ◌+◌, ◌*◌, ◌<◌, ◌≤◌, ◌^◌, Bool, true, false, List, [], ◌∷◌, ◌++◌, length, map, replicate, get_or, nat_eq, Option, Some, None, inl, inr, refl, sym, ap, ap₂, subst, arith}
+use Rattle.std.proofs.Common.{◌≡◌, ◌∙◌, ℕ, zero, suc, ◌+◌, ◌*◌, ◌<◌, ◌≤◌, ◌^◌, Bool, true, false, List, [], ◌∷◌, length, map, get_or, nat_eq, Option, Some, None, inl, inr, refl, sym, ap, subst, arith}
 use Rattle.std.specs.Prelude.{All, Result, Ok, Err, is_some, if◌then◌else◌, nat_le, nat_lt}
 use Rattle.std.specs.Io.Iter.{u64_saturate}
 use Rattle.std.specs.List.{AllByRecursion, range_with_len}
@@ -12,11 +12,8 @@ use Rattle.std.proofs.lemmas.List.FromFn.{length-range_with_len}
 use Rattle.class_model.specs.declared.memory.Memory.{Memory}
 use Rattle.class_writer.specs.Writing.{SpelledIsWritten}
 use Rattle.machine_laws.specs.Walks.{RunsKeepLimits}
-use Rattle.machine_rules.specs.declared.machine.Limits.{Limits}
 use Rattle.machine_rules.specs.Runs.{limit_of}
 use Rattle.class_link.specs.Info.{Info}
-use Rattle.class_link.specs.declared.loaded.Loaded.{Loaded}
-use Rattle.class_table.specs.declared.scripted.Test.{Test}
 use Rattle.class_table.specs.Table.{look}
 use Rattle.line_coverage.specs.Coverage.{Covered}
 use Rattle.mutator_ops.specs.declared.mutant.Mutant.{Mutant}
@@ -27,15 +24,15 @@ use Rattle.suite_workers.specs.Below.{AreViable}
 use Rattle.suite_workers.specs.Jobs.{most_steps}
 use Rattle.record_rules.specs.declared.record.RunRecord.{RunRecord}
 use Rattle.record_rules.specs.Jobs.{with_limit}
-use Rattle.record_rules.specs.Matching.{first_match, is_timed_out, matches}
+use Rattle.record_rules.specs.Matching.{first_match, is_timed_out}
 use Rattle.record_rules.specs.Records.{Asked}
 use Rattle.history_rules.specs.Laws.{IsFormed}
 use Rattle.history_file.specs.Rows.{Numbered}
-use Rattle.suite_workers.specs.Below.{made_by, tried_on, asked_on, steps_of}
+use Rattle.suite_workers.specs.Below.{made_by, tried_on, steps_of}
 use Rattle.job_rules.specs.Tried.{Tried, cost_of, known, knowns}
 use Rattle.suite_workers.specs.Jobs.{CellJob, covering_numbers}
-use Rattle.suite_workers.specs.Laws.{BoundsAreByName}
-use Rattle.suite_workers.specs.Old.{AreByName, AreLookUps, history_in, history_of, no_test, old_of, records_in, test_at}
+use Rattle.suite_workers.specs.Laws.{BoundsAreByName, SuitesAreAccepted}
+use Rattle.suite_workers.specs.Old.{AreByName, AreLookUps, history_in, history_of, no_test, old_of, records_in}
 use Rattle.suite_workers.specs.Originals.{AreKnown, MayRunOriginals, RunsOriginals, originals_of}
 use Rattle.suite_workers.specs.Said.{IsKnownIn, known_record}
 use Rattle.suite_workers.specs.declared.look_ups.LookUps.{LookUps}
@@ -48,7 +45,6 @@ use Rattle.job_answers.specs.declared.refusal.FailedTest.{FailedTest}
 use Rattle.job_answers.specs.declared.refusal.JobRefusal.{JobRefusal}
 use Rattle.job_answers.specs.declared.refusal.JobRefusal.TheVariants.{NotGreen, TooManyCells}
 use Rattle.job_answers.specs.Answers.{most_cells, unless_failed, unless_many}
-use Rattle.job_answers.specs.Laws.{HasRecord, OriginalsHaveRecords}
 use Rattle.job_answers.proofs.Written.{first_is, fits_of}
 use Rattle.suite_runs.specs.declared.fault.JobFault.{JobFault}
 use Rattle.suite_runs.specs.declared.fault.JobFault.TheVariants as fault
@@ -56,10 +52,9 @@ use Rattle.suite_runs.specs.declared.job.SuiteJob.{SuiteJob}
 use Rattle.suite_runs.specs.declared.prepared.Prepared.{Prepared}
 use Rattle.suite_runs.specs.declared.reached.NamedClasses.{NamedClasses}
 use Rattle.suite_runs.specs.Ending.{MayRunJob, allowed_in, suite_of}
-use Rattle.suite_runs.specs.Failing.{failed_among}
 use Rattle.suite_runs.specs.Originals.{IsOriginalSetup, MayMakeOriginals, all_tried, original_cost, run_asked, run_tried, same_steps}
 use Rattle.suite_runs.specs.Placing.{AreNamed, IsNamedFor, texts_in}
-use Rattle.suite_runs.specs.Preparing.{AreBoundsBy, AreGreen, AreOriginals, GreenEnds, MayBeRun, OriginalEnds, Prepares, ReadyEnds, RefusesFailed, RisesBy, RoseAtMost}
+use Rattle.suite_runs.specs.Preparing.{AreBoundsBy, AreOriginals, GreenEnds, MayBeRun, OriginalEnds, Prepares, ReadyEnds, RisesBy, RoseAtMost}
 use Rattle.suite_runs.specs.Reaching.{CoversKnown, lines_in}
 use Rattle.suite_runs.proofs.MutantsFit.{mutants_fit}
 use Rattle.suite_runs.proofs.OriginalRuns.{runs_are, starts}
@@ -67,19 +62,19 @@ use Rattle.suite_runs.proofs.Suited.{bounds_are}
 
 -- ---- the runs of the tests
 
-pub may_make : (p : List Info) (j : SuiteJob) (old : OldRecords) → ReadyMayRun → OriginalsHaveRecords → MayBeRun p j old → MayMakeOriginals p j
-may_make p j old ready have be =
+pub may_make : (p : List Info) (j : SuiteJob) (old : OldRecords) → ReadyMayRun → SuitesAreAccepted → MayBeRun p j old → MayMakeOriginals p j
+may_make p j old ready accepted_law be =
     let may = be.1 in
     let suite = may.suite in
     let accepted = suite.accepted in
     let made = accepted.suite in
-    let all = have (allowed_in j) (suite_of may.files p j) suite.accepted in
+    let all = accepted_law (suite_of may.files p j) suite.accepted in
     record {
       few = may.few_tests;
       steps_fit = may.steps_fit;
       heap_fits = may.heap_fits;
       runnable = ready p made.of.program may.ready;
-      goes_on = λ k lt. subst HasRecord (λ i. asked_on (look p) (sym suite.holds i) (test_at j.tests.now k) j.limits j.steps) (all k no_test lt);
+      accepted = λ k lt. all k no_test lt;
     }
 
 pub same_by_name : (j : SuiteJob) → AreByName j.tests.now (same_steps j)

@@ -20,7 +20,6 @@ use crate::reached::{NamedClasses, coverage_of};
 use class_model::{Memory, Seq};
 use class_table::{Program, Test};
 use class_writer::what_is_spelled_is_written;
-use job_answers::originals_have_records;
 use line_coverage::Coverage;
 use machine_laws::runs_keep_limits;
 use machine_rules::Limits;
@@ -32,7 +31,7 @@ use std::sync::Wait;
 use std::thread::Threads;
 use suite_workers::{
     KnownRun, LookUps, OldRecords, OriginalSetup, bounds_are_by_name, mutants_are_of,
-    ready_may_run, run_originals, viable_by_workers,
+    ready_may_run, run_originals, suites_are_accepted, viable_by_workers,
 };
 use worker_gate::Recorder;
 
@@ -69,7 +68,7 @@ fn may_make(program: &Program, job: &SuiteJob, old: OldRecords)
     ensures { MayMakeOriginals program.now job.now }
 {
     ready_may_run();
-    originals_have_records();
+    suites_are_accepted();
 }
 
 // What the workers of original runs share.

@@ -22,3 +22,4 @@ mod RunAll
 pub mod Below
 mod OriginalRuns
 mod PartsTold
+mod MadeRuns

@@ -10,9 +10,11 @@ use Rattle.claim_core.specs.Claims.{no_place}
 use Rattle.class_model.specs.declared.memory.Memory.{Memory}
 use Rattle.machine_laws.specs.Walks.{RunsKeepLimits}
 use Rattle.class_link.specs.Info.{Info}
+use Rattle.class_table.specs.Table.{look}
+use Rattle.jvm_world.specs.View.{test_of}
+use Rattle.run_records.specs.Below.{IsAcceptedFor}
 use Rattle.class_table.specs.declared.scripted.Test.{Test}
 use Rattle.record_rules.specs.declared.record.RunRecord.{RunRecord}
-use Rattle.record_rules.specs.Records.{record_of}
 use Rattle.job_rules.specs.Gathered.{flat}
 use Rattle.job_rules.specs.Tried.{Ascend, Tried, cost_of, cost_of_all, known, need_cost, needed, needed_of_all}
 use Rattle.job_rules.specs.Worked.{cells_of}
@@ -183,8 +185,8 @@ module _ (p : List Info) (x : OriginalSetup) where
     pub most_in : (mutant before after : ℕ) → after ≤ before + made_of_it.steps → CountsAtMost run_reading (originals_from p x) mutant test before after
     most_in mutant before after h = counts_most mutant test before after (subst (λ (r : RunRecord). after ≤ before + r.steps) made_is h)
 
-    pub goes_on : StartsOriginals p x → test < length x.tests.now → record_of (asked p u x.limits x.steps) ≡ Some made_of_it
-    goes_on starts within = subst (λ (v : Test). record_of (asked p v x.limits x.steps) ≡ Some (made_by (asked p v x.limits x.steps))) (sym same) (starts.may.goes_on test within)
+    pub is_accepted : StartsOriginals p x → test < length x.tests.now → IsAcceptedFor (look p) (test_of u)
+    is_accepted starts within = subst (λ (v : Test). IsAcceptedFor (look p) (test_of v)) (sym same) (starts.may.accepted test within)
 
   -- ---- what all cost
 

@@ -1,28 +1,23 @@
 -- A run that a worker makes is that of the cell.
-use Rattle.std.proofs.Common.{◌≡◌, ◌∙◌, sym, refl, ap, subst, ℕ, zero, suc, ◌+◌, ◌<◌, ◌≤◌, ◌^◌, Bool, true, List, [], ◌∷◌, Option, None, Some, All, length, slice_get, slice_set, slice_index, slice_index_or, arith}
-use Rattle.std.specs.Prelude.{Contains, zip}
-use Rattle.std.specs.Option.{option_map, unwrap_or}
+use Rattle.std.proofs.Common.{◌≡◌, ◌∙◌, sym, refl, ap, subst, ℕ, ◌+◌, ◌<◌, ◌≤◌, ◌^◌, List, Some, length, slice_set, slice_index, arith}
 use Rattle.std.proofs.lemmas.Option.{slice_get_within}
-use Rattle.class_model.specs.declared.class.Class.{Class}
-use Rattle.class_model.specs.declared.outcome.Outcome.TheVariants.{MemoryOut}
-use Rattle.machine_rules.specs.Runs.{Ending, With, StuckAt}
 use Rattle.type_laws.specs.Faults.{FaultlessAreAccepted}
-use Rattle.type_laws.specs.Soundness.{IsStuck}
 use Rattle.class_link.specs.Info.{Info}
 use Rattle.class_table.specs.declared.scripted.Test.{Test}
 use Rattle.class_table.specs.Table.{look, IsProgram}
-use Rattle.run_records.specs.Below.{IsRunnable}
+use Rattle.jvm_world.specs.View.{test_of}
+use Rattle.run_records.specs.Below.{IsAcceptedFor, IsRunnable}
+use Rattle.run_records.specs.Recorded.{IsRecordOf}
 use Rattle.mutant_apply.specs.BytesLaws.{PartsAreOfApplied}
 use Rattle.suite_jobs.specs.Below.{EditedAreReady, ReadyMayRun}
 use Rattle.suite_jobs.specs.Below.{IsReady}
 use Rattle.suite_jobs.proofs.Below.{ready_with}
 use Rattle.record_rules.specs.declared.record.RunRecord.{RunRecord}
-use Rattle.record_rules.specs.Outcomes.{outcome_at}
-use Rattle.record_rules.specs.Records.{Asked, record_of, record_with, run}
+use Rattle.record_rules.specs.Records.{Asked, run}
 use Rattle.run_records.specs.Asking.{asked}
 use Rattle.suite_jobs.specs.Jobs.{made_by}
 use Rattle.job_rules.specs.Tried.{Tried}
-use Rattle.worker_gate.specs.Hands.{Counts, CountsAtMost, IsCellOf, IsRunOf, Makes, Runs}
+use Rattle.worker_gate.specs.Hands.{Counts, CountsAtMost, IsCellOf, IsRunOf, Makes}
 use Rattle.suite_workers.specs.Marks.{Marked, mark_made, run_reading}
 use Rattle.suite_workers.specs.Old.{history_of, test_at}
 use Rattle.suite_workers.specs.Jobs.{asked_of, cell_runs, job_in, most_limit}
@@ -30,21 +25,12 @@ use Rattle.suite_workers.specs.Standing.{HasEdit, HasEditAt, StandsAt}
 use Rattle.suite_workers.specs.Working.{StartsFrom, runs_from}
 use Rattle.suite_workers.specs.declared.setup.JobSetup.{JobSetup}
 use Rattle.suite_workers.specs.declared.standing.Stand.{Stand}
+use Rattle.suite_workers.proofs.MadeRuns.{made_is as is_made_by}
 use Rattle.suite_workers.proofs.Lists.{bound_at}
 use Rattle.suite_workers.proofs.EditedRuns.{asked_edited, has_edit, tells_viable}
 use Rattle.suite_workers.proofs.Finding.{has_standing, is_test}
 use Rattle.suite_workers.proofs.Marking.{cell_unmarked, unmark}
 use Rattle.suite_workers.proofs.RunsAt.{RunAt, run_at}
-
--- ---- one run has a record
-
-record_case : (x : Asked) (e : Ending) → (IsStuck e → ⊥) → option_map (record_with x (run x)) (outcome_at e) ≡ Some (record_with x (run x) (unwrap_or (outcome_at e) MemoryOut))
-record_case x (With o) free = refl
-record_case x (StuckAt place) free = absurd (free tt)
-
-has_record : (x : Asked) → (IsStuck (run x).ending → ⊥) → record_of x ≡ Some (made_by x)
-unfolding record_of
-has_record x free = record_case x (run x).ending free
 
 -- ---- the run that is made
 
@@ -71,20 +57,18 @@ module _ (law : PartsAreOfApplied) (p : List Info) (x : JobSetup) (starts : Star
       ∙ ap (λ q. asked q (test_at x.tests.now test) x.limits (slice_index x.bounds.now test)) has.program_is
       ∙ asked_edited law p at.m at.made stands.2.standing.id.0 has.edited has.makes has.edit at.viable (test_at x.tests.now test) x.limits (slice_index x.bounds.now test)
 
-  recorded : record_of (asked_of p (job_in x) at.made test) ≡ Some (made_by (asked_of p (job_in x) at.made test))
-  recorded = has_record (asked_of p (job_in x) at.made test) (starts.can.free (at.m, at.covering) at.made test at.pair at.viable at.has)
-
   module _ (u : Test) (same : u ≡ test_at x.tests.now test) where
-    not_stuck : None ≡ record_of (asked s.program u x.limits (slice_index x.bounds.now test)) → ⊥
-    not_stuck none =
-        let both : None ≡ Some (made_by (asked_of p (job_in x) at.made test)) = none ∙ ap record_of (asked_is u same) ∙ recorded in
-        cc
+    -- The program is accepted for the test.
+    is_accepted : IsAcceptedFor (look s.program) (test_of u)
+    is_accepted =
+        subst (λ (a : Asked). IsAcceptedFor a.look a.test) (sym (asked_is u same))
+        (starts.can.accepted (at.m, at.covering) at.made test at.pair at.viable at.has)
 
-    made_is : (made : RunRecord) → Some made ≡ record_of (asked s.program u x.limits (slice_index x.bounds.now test)) → made ≡ t.made
+    made_is : (made : RunRecord) → IsRecordOf (asked s.program u x.limits (slice_index x.bounds.now test)) made → made ≡ t.made
     made_is made h =
-        let both : Some made ≡ Some (made_by (asked_of p (job_in x) at.made test)) = h ∙ ap record_of (asked_is u same) ∙ recorded in
-        let one : made ≡ made_by (asked_of p (job_in x) at.made test) = cc in
-        one ∙ ap (λ (r : Tried RunRecord). r.made) (sym at.run)
+        is_made_by (asked s.program u x.limits (slice_index x.bounds.now test)) made h
+        ∙ ap made_by (asked_is u same)
+        ∙ ap (λ (r : Tried RunRecord). r.made) (sym at.run)
 
     steps_are : (run (asked s.program u x.limits (slice_index x.bounds.now test))).steps ≡ t.made.steps
     steps_are = ap (λ a. (run a).steps) (asked_is u same) ∙ ap (λ (r : Tried RunRecord). r.made.steps) (sym at.run)
@@ -125,14 +109,14 @@ module _ (p : List Info) (x : JobSetup) (mutant test : ℕ) (cell : IsCellOf (ru
       same_asked : asked s.program u x.limits limit ≡ asked s.program u x.limits (slice_index x.bounds.now test)
       same_asked = ap (λ n. asked s.program u x.limits n) limit_is
 
-      pub never_none : None ≡ record_of (asked s.program u x.limits limit) → ⊥
-      never_none h = not_stuck law p x starts mutant test s stands cell_is.run cell_is.is u test_is (h ∙ ap record_of same_asked)
+      pub accepted_so : IsAcceptedFor (look s.program) (test_of u)
+      accepted_so = is_accepted law p x starts mutant test s stands cell_is.run cell_is.is u test_is
 
-      pub makes_so : (made : RunRecord) → Some made ≡ record_of (asked s.program u x.limits limit) → Makes run_reading (runs_from p x) mutant test made
+      pub makes_so : (made : RunRecord) → IsRecordOf (asked s.program u x.limits limit) made → Makes run_reading (runs_from p x) mutant test made
       makes_so made h = record {
         makes = λ m is.
             let un = unmark (history_of x.look_ups.now) (cell_runs p (job_in x)) mutant test m is in
-            ap mark_made (made_is law p x starts mutant test s stands un.run un.is u test_is made (h ∙ ap record_of same_asked)) ∙ ap (λ (r : Tried Marked). r.made) (sym un.mark_is);
+            ap mark_made (made_is law p x starts mutant test s stands un.run un.is u test_is made (subst (λ a. IsRecordOf a made) same_asked h)) ∙ ap (λ (r : Tried Marked). r.made) (sym un.mark_is);
       }
 
       counted : (m : Tried Marked) → IsRunOf (runs_from p x) mutant test m → (run (asked s.program u x.limits limit)).steps ≡ run_reading.steps m.made

@@ -1,5 +1,5 @@
 -- The cells of a suite, and that they can be run.
-use Rattle.std.proofs.Common.{◌≡◌, ◌∙◌, sym, refl, ap, subst, ℕ, zero, suc, ◌+◌, ◌<◌, ◌≤◌, Bool, true, false, cond, List, [], ◌∷◌, Option, None, Some, Result, All, length, map, filter, get_or, slice_index, slice_index_or, arith, inr}
+use Rattle.std.proofs.Common.{◌≡◌, ◌∙◌, sym, refl, ap, subst, ℕ, zero, suc, ◌+◌, ◌<◌, ◌≤◌, Bool, true, false, cond, List, [], ◌∷◌, Option, None, Some, All, length, map, filter, get_or, slice_index, slice_index_or, arith, inr}
 use Rattle.std.specs.Prelude.{AllPairs, Contains, is_some, if◌then◌else◌, option_and_then, zip}
 use Rattle.std.specs.List.{AllByRecursion, enumerate_from}
 use Rattle.std.specs.Option.{option_map, option_map_or}
@@ -8,31 +8,25 @@ use Rattle.std.proofs.lemmas.List.FromFn.{get_or-enumerate_from, length-enumerat
 use Rattle.class_model.specs.declared.class.Class.{Class}
 use Rattle.class_reader.specs.Spells.{IsClass}
 use Rattle.program_rules.specs.Names.{Name, same}
-use Rattle.program_rules.specs.Programs.{Look}
 use Rattle.program_rules.specs.Tests.{Test as Script}
 use Rattle.machine_rules.specs.Runs.{limit_of}
-use Rattle.machine_laws.specs.Consulted.{IsLibraryWhole}
 use Rattle.type_rules.specs.Faults.{Placed}
-use Rattle.type_laws.specs.Soundness.{IsStuck}
 use Rattle.class_link.specs.Info.{own_name}
-use Rattle.class_link.specs.declared.loaded.Loaded.{Loaded}
 use Rattle.class_table.specs.declared.scripted.Test.{Test}
 use Rattle.class_table.specs.Table.{look}
 use Rattle.jvm_world.specs.View.{test_of}
 use Rattle.mutator_ops.specs.declared.mutant.Mutant.{Mutant}
-use Rattle.mutant_apply.specs.Edited.{applied}
 use Rattle.suite_jobs.specs.Below.{mutant_runs_files_of as files_of, mutant_runs_with_class as with_class, mutant_runs_edited as edited, mutant_runs_with_accepted as with_accepted, mutant_runs_viable as viable, IsMutantOf}
-use Rattle.suite_jobs.specs.Below.{IsOwnTest, asked_on, bytes_of, put_file, FoundAreOwnTests, FitsProgram, IsSafe, IsSafeMutant, ViableAreNeverStuck, IsMutated, FoundTestsFit, SuitesAreSafe, classes_in, class_file}
+use Rattle.suite_jobs.specs.Below.{IsOwnTest, asked_on, bytes_of, put_file, FoundAreOwnTests, FitsProgram, IsSafe, IsSafeMutant, SafeAreAccepted, ViableAreAccepted, FoundTestsFit, SuitesAreSafe, classes_in, class_file}
 use Rattle.record_rules.specs.declared.record.RunRecord.{RunRecord}
-use Rattle.record_rules.specs.Profiles.{Held}
-use Rattle.record_rules.specs.Records.{Asked, run}
-use Rattle.run_records.specs.Asking.{held_by}
+use Rattle.record_rules.specs.Records.{run}
+use Rattle.run_records.specs.Below.{IsAcceptedFor}
 use Rattle.class_records.specs.Profile.{profile}
-use Rattle.job_rules.specs.Tried.{Tried, known}
+use Rattle.job_rules.specs.Tried.{known}
 use Rattle.suite_jobs.specs.Jobs.{Allowed, IsAccepted, IsOfFile, Suite, covering, has_reached, job_runs, mutant_runs, mutant_tried, numbered, original_tried, tried_on, viable_file}
 use Rattle.suite_workers.specs.Old.{AreByName, no_test, test_at}
-use Rattle.suite_workers.specs.Jobs.{CanRun, CellJob, FitsNumbers, HoldsFiles, IsCovered, IsSetupOf, asked_of, bound_of, cell_run, cell_runs, covering_numbers, runs_on}
-use Rattle.suite_workers.specs.Laws.{AcceptedMayRun, BoundsAreByName, CellsAreOfSuite}
+use Rattle.suite_workers.specs.Jobs.{CanRun, CellJob, HoldsFiles, IsCovered, IsSetupOf, bound_of, cell_run, cell_runs, covering_numbers, runs_on}
+use Rattle.suite_workers.specs.Laws.{AcceptedMayRun, BoundsAreByName, CellsAreOfSuite, SuitesAreAccepted}
 use Rattle.suite_workers.proofs.Lists.{at_default, at_map, first_one, long_map, map_twice, one_more}
 use Rattle.suite_workers.proofs.EditedRuns.{is_viable}
 
@@ -201,7 +195,7 @@ paired f (x ∷ xs) p (suc k, lt, is) = let more = paired f xs p (k, omega (arit
 pub record Laws : Type 0 where
   pub safe : SuitesAreSafe
   pub fit : FoundTestsFit
-  pub viable : ViableAreNeverStuck
+  pub viable : ViableAreAccepted
 
 module _ (g : Laws) (a : Allowed) (s : Suite) (old : List RunRecord) (h : IsAccepted s) where
   safe : IsSafe s.program
@@ -239,8 +233,8 @@ module _ (g : Laws) (a : Allowed) (s : Suite) (old : List RunRecord) (h : IsAcce
       accepted = is_taken;
     }
 
-    never_stuck : (k limit : ℕ) (held : Held) → k < length s.tests → IsStuck (run (asked_on (with_class made.0 (look s.program)) held (test_at s.tests k) a.limits limit)).ending → ⊥
-    never_stuck k limit held lt stuck = g.viable s.program m (with_class made.0 (look s.program)) (test_at s.tests k) a.limits limit is_safe_mutant (fits k no_test lt) stuck
+    accepted_on : (k : ℕ) → k < length s.tests → IsAcceptedFor (with_class made.0 (look s.program)) (test_of (test_at s.tests k))
+    accepted_on k lt = g.viable s.program m (with_class made.0 (look s.program)) (test_at s.tests k) is_safe_mutant (fits k no_test lt)
 
   -- ---- covering tests
 
@@ -280,12 +274,25 @@ module _ (g : Laws) (a : Allowed) (s : Suite) (old : List RunRecord) (h : IsAcce
         long = long_map (covering_numbers a s old) s.mutants;
         each = long_bounds ∙ long_numbered;
         covered = All-from_recursion (IsCovered s.program (length s.tests)) (zip s.mutants (map (covering_numbers a s old) s.mutants)) (all_covered s.mutants);
-        free = λ m made k in_job at has.
+        accepted = λ m made k in_job at has.
             let of = paired (covering_numbers a s old) s.mutants m in_job in
             let file = All-contains (IsOfFile s.program) s.mutants m.0 h.mutants of.0 in
             let numbers = (is_covered m.0).numbers in
-            never_stuck m.0 file made at k _ (put_file made (held_by s.program)) (All-contains (λ n. n < length s.tests) (covering_numbers a s old m.0) k numbers (subst (λ ns. Contains ns k) of.1 has));
+            accepted_on m.0 file made at k (All-contains (λ n. n < length s.tests) (covering_numbers a s old m.0) k numbers (subst (λ ns. Contains ns k) of.1 has));
       }
 
 pub may_run : Laws → AcceptedMayRun
 may_run g a s old j accepted h fit = subst (CanRun s.program) (sym (is_setup a s old j h)) (can_run g a s old accepted fit)
+
+-- ---- the program as it is
+
+each_accepted : SafeAreAccepted → (p : List Info) → IsSafe p → (ts : List Test) → AllByRecursion (FitsProgram p) ts → AllByRecursion (λ t. IsAcceptedFor (look p) (test_of t)) ts
+each_accepted law p safe [] h = tt
+each_accepted law p safe (t ∷ ts) h = (law p t safe h.0, each_accepted law p safe ts h.1)
+
+pub are_accepted : SuitesAreSafe → FoundTestsFit → SafeAreAccepted → SuitesAreAccepted
+are_accepted safe_law fit law s h =
+    let safe = (safe_law (classes_in s.files) s.program h.suite.of).0 in
+    let fits = fit (classes_in s.files) s.program (length s.program) h.names s.tests h.suite.of h.tests in
+    All-from_recursion (λ t. IsAcceptedFor (look s.program) (test_of t)) s.tests
+    (each_accepted law s.program safe s.tests (recursion_from_All (FitsProgram s.program) s.tests fits))

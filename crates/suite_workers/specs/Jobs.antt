@@ -8,13 +8,14 @@ use Rattle.class_link.specs.declared.loaded.Loaded.{Loaded}
 use Rattle.class_link.specs.Info.{Info}
 use Rattle.class_table.specs.declared.scripted.Test.{Test}
 use Rattle.class_table.specs.Table.{look, IsProgram}
-use Rattle.type_laws.specs.Soundness.{IsStuck}
+use Rattle.jvm_world.specs.View.{test_of}
+use Rattle.run_records.specs.Below.{IsAcceptedFor}
 use Rattle.mutator_ops.specs.declared.mutant.Mutant.{Mutant}
 use Rattle.suite_jobs.specs.Below.{mutant_runs_files_of as files_of, mutant_runs_with_class as with_class, IsMutantOf}
 use Rattle.suite_jobs.specs.Below.{IsReady}
 use Rattle.test_select.specs.Cells.{most_cells}
 use Rattle.record_rules.specs.declared.record.RunRecord.{RunRecord}
-use Rattle.record_rules.specs.Records.{Asked, run}
+use Rattle.record_rules.specs.Records.{Asked}
 use Rattle.job_rules.specs.Gathered.{flat}
 use Rattle.job_rules.specs.Tried.{Tried, known}
 use Rattle.run_records.specs.Asking.{held_by}
@@ -86,8 +87,8 @@ pub record IsCovered (p : List Info) (tests : ℕ) (m : Mutant × List ℕ) : Ty
   pub ascend : AllPairs ◌<◌ m.1
   pub viable : (k : ℕ) → Contains m.1 k → is_some (viable_file p m.0) ≡ true
 
--- The program is ready, the mutants are its own, covered as they ought to be, and no run of a cell
--- is stuck.
+-- The program is ready, the mutants are its own, covered as they ought to be, and the program of
+-- each that is viable is accepted for the tests that cover it.
 pub record CanRun (p : List Info) (j : CellJob) : Type 0 where
   pub program : IsProgram p
   pub ready : IsReady p
@@ -95,9 +96,9 @@ pub record CanRun (p : List Info) (j : CellJob) : Type 0 where
   pub long : length j.covering ≡ length j.mutants
   pub each : length j.bounds ≡ length j.tests
   pub covered : All (IsCovered p (length j.tests)) (zip j.mutants j.covering)
-  pub free : (m : Mutant × List ℕ) (made : Class × List ℕ) (k : ℕ) →
+  pub accepted : (m : Mutant × List ℕ) (made : Class × List ℕ) (k : ℕ) →
       Contains (zip j.mutants j.covering) m → viable_file p m.0 ≡ Some made → Contains m.1 k →
-      IsStuck (run (asked_of p j made k)).ending → ⊥
+      IsAcceptedFor (with_class made.0 (look p)) (test_of (test_at j.tests k))
 
 -- ---- of a suite
 

@@ -1,5 +1,9 @@
 -- What is said of the cells of a suite.
 use Rattle.std.specs.Prelude.{◌≡◌, All, List}
+use Rattle.class_table.specs.declared.scripted.Test.{Test}
+use Rattle.class_table.specs.Table.{look}
+use Rattle.jvm_world.specs.View.{test_of}
+use Rattle.run_records.specs.Below.{IsAcceptedFor}
 use Rattle.suite_jobs.specs.Below.{mutant_runs_files_of as files_of, IsMutantOf}
 use Rattle.record_rules.specs.declared.record.RunRecord.{RunRecord}
 use Rattle.suite_jobs.specs.Jobs.{Allowed, Suite, IsAccepted, job_runs}
@@ -18,6 +22,11 @@ abbrev pub AcceptedMayRun : Type 0
 AcceptedMayRun =
     (a : Allowed) (s : Suite) (old : List RunRecord) (j : CellJob) → IsAccepted s →
     IsSetupOf a s old j → All (IsMutantOf (files_of s.program)) s.mutants → CanRun s.program j
+
+-- The program of an accepted suite is accepted for each of its tests.
+abbrev pub SuitesAreAccepted : Type 0
+SuitesAreAccepted =
+    (s : Suite) → IsAccepted s → All (λ t. IsAcceptedFor (look s.program) (test_of t)) s.tests
 
 -- Tests of one class and method may take the same steps on mutants.
 abbrev pub BoundsAreByName : Type 0

@@ -10,12 +10,13 @@ use Rattle.class_table.specs.declared.scripted.Test.{Test}
 use Rattle.class_table.specs.Table.{look}
 use Rattle.history_file.specs.Rows.{Numbered}
 use Rattle.record_rules.specs.declared.record.RunRecord.{RunRecord}
-use Rattle.record_rules.specs.Records.{Asked, record_of}
+use Rattle.record_rules.specs.Records.{Asked}
 use Rattle.run_records.specs.Asking.{asked}
-use Rattle.run_records.specs.Below.{IsRunnable}
+use Rattle.jvm_world.specs.View.{test_of}
+use Rattle.run_records.specs.Below.{IsAcceptedFor, IsRunnable}
 use Rattle.job_rules.specs.Tried.{Tried, cost_of, knowns}
 use Rattle.suite_jobs.specs.Below.{IsReady}
-use Rattle.suite_jobs.specs.Jobs.{made_by, tried_on}
+use Rattle.suite_jobs.specs.Jobs.{tried_on}
 use Rattle.suite_jobs.specs.Laws.{steps_of}
 use Rattle.worker_gate.specs.Hands.{Runs}
 use Rattle.suite_workers.specs.Jobs.{most_steps}
@@ -45,8 +46,8 @@ module _ (p : List Info) (tests : List Test) (limits : Limits) (steps : ℕ) whe
     pub steps_fit : steps ≤ most_steps
     pub heap_fits : limits.heap < 2 ^ 31
     pub runnable : IsRunnable (look p)
-    pub goes_on : (k : ℕ) → k < length tests →
-        record_of (test_asked k) ≡ Some (made_by (test_asked k))
+    pub accepted : (k : ℕ) → k < length tests →
+        IsAcceptedFor (look p) (test_of (test_at tests k))
 
 -- Those of a setup.
 abbrev pub originals_of : List Info → OriginalSetup → List (Tried RunRecord)

@@ -1,9 +1,11 @@
 //! Laws of the cells of a suite.
 
 ghost use Rattle.suite_workers.specs.Laws.{AcceptedMayRun, BoundsAreByName, CellsAreOfSuite};
+ghost use Rattle.suite_workers.specs.Laws.{SuitesAreAccepted};
 
 use suite_jobs::{
-    found_are_own_tests, found_tests_fit, suites_are_safe, viable_mutants_are_never_stuck,
+    found_are_own_tests, found_tests_fit, safe_programs_are_accepted, suites_are_safe,
+    viable_mutants_are_accepted,
 };
 
 /// The runs of the cells of a suite are those of its job on mutants.
@@ -24,5 +26,14 @@ pub fn accepted_may_run()
 {
     suites_are_safe();
     found_tests_fit();
-    viable_mutants_are_never_stuck();
+    viable_mutants_are_accepted();
+}
+
+/// The program of an accepted suite is accepted for each of its tests.
+pub fn suites_are_accepted()
+    ensures { SuitesAreAccepted }
+{
+    suites_are_safe();
+    found_tests_fit();
+    safe_programs_are_accepted();
 }

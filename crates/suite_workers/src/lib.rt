@@ -15,7 +15,7 @@ mod standing;
 mod viability;
 mod worker;
 
-pub use laws::{accepted_may_run, bounds_are_by_name, cells_are_of_suite};
+pub use laws::{accepted_may_run, bounds_are_by_name, cells_are_of_suite, suites_are_accepted};
 pub use look_ups::LookUps;
 pub use old_records::{FoundRun, OldRecords};
 pub use originals::run_originals;

@@ -1,10 +1,10 @@
 //! A worker of original runs: hands that run the tests of a suite on its program as it is.
 
-ghost use Rattle.std.specs.Prelude.{◌≡◌, ◌+◌, ◌≤◌, ◌<◌, ◌^◌, IfOk, OnOk, Some};
+ghost use Rattle.std.specs.Prelude.{◌≡◌, ◌+◌, ◌≤◌, ◌<◌, ◌^◌, IfOk, OnOk};
 ghost use Rattle.class_table.specs.Table.{look};
-ghost use Rattle.record_rules.specs.Records.{record_of};
+ghost use Rattle.jvm_world.specs.View.{test_of};
 ghost use Rattle.run_records.specs.Asking.{asked};
-ghost use Rattle.run_records.specs.Below.{AreTablesOf, IsRunnable};
+ghost use Rattle.run_records.specs.Below.{AreTablesOf, IsAcceptedFor, IsRunnable};
 ghost use Rattle.suite_jobs.specs.Jobs.{made_by};
 ghost use Rattle.worker_gate.specs.Hands.{detects_made};
 ghost use Rattle.suite_workers.specs.Marks.{run_reading};
@@ -72,6 +72,7 @@ impl<'a, 'r, 'h> OriginalWorker<'a, 'r, 'h> {
 }
 
 // The record of the run of a test. Its steps are counted in the part.
+#[tactic(auto, using(crate::proofs::MadeRuns::made_is))]
 fn made(
     alloc: Global,
     program: &Program,
@@ -85,8 +86,7 @@ fn made(
     requires runnable { IsRunnable (look program.now) }
     requires small { limits.heap < 2 ^ 31 }
     requires room { part.old + steps < 2 ^ 64 }
-    requires goes_on { record_of (asked program.now test.now limits steps)
-        ≡ Some (made_by (asked program.now test.now limits steps)) }
+    requires accepted { IsAcceptedFor (look program.now) (test_of test.now) }
     ensures made { IfOk result (λ r. r ≡ made_by (asked program.now test.now limits steps)) }
     ensures steps { OnOk result (part.new
         ≡ part.old + (made_by (asked program.now test.now limits steps)).steps) }
@@ -94,10 +94,8 @@ fn made(
         ≤ part.old + (made_by (asked program.now test.now limits steps)).steps }
     ensures tables { AreTablesOf program.now tables.new }
 {
-    match make_record(alloc, program, tables, test, limits, steps, part)? {
-        Some(made) => Ok(made),
-        None => unreachable!(),
-    }
+    let made = make_record(alloc, program, tables, test, limits, steps, part)?;
+    Ok(made)
 }
 
 impl<'a, 'r, 'h> Hands for OriginalWorker<'a, 'r, 'h> {

@@ -172,10 +172,7 @@ fn run_in(
         bound,
         part,
     )?;
-    match made {
-        Some(made) => Ok(made),
-        None => unreachable!(),
-    }
+    Ok(made)
 }
 
 impl<'a, 'r, 'h> Hands for Worker<'a, 'r, 'h> {

@@ -5,5 +5,5 @@ pub returns : goal.returns
 returns c = may_run (record {
   safe = c.suites_are_safe.ensures;
   fit = c.found_tests_fit.ensures;
-  viable = c.viable_mutants_are_never_stuck.ensures;
+  viable = c.viable_mutants_are_accepted.ensures;
 })

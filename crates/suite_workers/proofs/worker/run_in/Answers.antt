@@ -1,6 +1,6 @@
 use Rattle.std.proofs.Common.{refl}
 use Rattle.suite_workers.specs.Standing.{base_of}
-use Rattle.suite_workers.proofs.Running.{counts_most, counts_so, has_bound, has_room, has_test, is_runnable, makes_so, mutant_has_edit, mutant_within, never_none}
+use Rattle.suite_workers.proofs.Running.{accepted_so, counts_most, counts_so, has_bound, has_room, has_test, is_runnable, makes_so, mutant_has_edit, mutant_within}
 use Rattle.suite_workers.proofs.Standings.{ran_stand}
 use Rattle.suite_workers.proofs.Works.{stays_work}
 use Rattle.suite_workers.proofs.worker.run_in.Goals as goal
@@ -39,15 +39,15 @@ returns-in_err-made-clause-work c =
 pub returns-in_err-made-clause-most : goal.returns-in_err-made-clause-most
 returns-in_err-made-clause-most c = counts_most (base_of c.args.stand.now) c.args.setup.now c.args.mutant c.args.test c.requires.cell c.parts_are_of_applied.ensures c.requires.work.starts c.place.new.stand c.in_ok-place.ensures.placed c.test_at-own.result.now c.test_at-own.ensures c.bound_at-bound.result c.bound_at-bound.ensures c.args.part.now c.make_record.new.part c.in_err-made.ensures.memory
 
-pub unreachable-requires : goal.unreachable-requires
-unreachable-requires c = never_none (base_of c.args.stand.now) c.args.setup.now c.args.mutant c.args.test c.requires.cell c.parts_are_of_applied.ensures c.requires.work.starts c.place.new.stand c.in_ok-place.ensures.placed c.test_at-own.result.now c.test_at-own.ensures c.bound_at-bound.result c.bound_at-bound.ensures (rw c.in-None.is at c.in_ok-made.ensures.made)
+pub make_record-requires-clause-accepted : goal.make_record-requires-clause-accepted
+make_record-requires-clause-accepted c = accepted_so (base_of c.args.stand.now) c.args.setup.now c.args.mutant c.args.test c.requires.cell c.parts_are_of_applied.ensures c.requires.work.starts c.place.new.stand c.in_ok-place.ensures.placed c.test_at-own.result.now c.test_at-own.ensures c.bound_at-bound.result c.bound_at-bound.ensures
 
 pub returns-clause-work : goal.returns-clause-work
 returns-clause-work c =
     stays_work c.args.setup.now c.args.stand.now _ c.requires.work (ran_stand (base_of c.args.stand.now) c.args.setup.now.look_ups.now.history c.args.setup.now.mutants.now c.args.mutant c.place.new.stand _ c.in_ok-place.ensures.placed refl refl refl c.in_ok-made.ensures.tables)
 
 pub returns-clause-made : goal.returns-clause-made
-returns-clause-made c = makes_so (base_of c.args.stand.now) c.args.setup.now c.args.mutant c.args.test c.requires.cell c.parts_are_of_applied.ensures c.requires.work.starts c.place.new.stand c.in_ok-place.ensures.placed c.test_at-own.result.now c.test_at-own.ensures c.bound_at-bound.result c.bound_at-bound.ensures c.in-Some.made (rw c.in-Some.is at c.in_ok-made.ensures.made)
+returns-clause-made c = makes_so (base_of c.args.stand.now) c.args.setup.now c.args.mutant c.args.test c.requires.cell c.parts_are_of_applied.ensures c.requires.work.starts c.place.new.stand c.in_ok-place.ensures.placed c.test_at-own.result.now c.test_at-own.ensures c.bound_at-bound.result c.bound_at-bound.ensures c.in_ok-made.made c.in_ok-made.ensures.made
 
 pub returns-clause-steps : goal.returns-clause-steps
 returns-clause-steps c = counts_so (base_of c.args.stand.now) c.args.setup.now c.args.mutant c.args.test c.requires.cell c.parts_are_of_applied.ensures c.requires.work.starts c.place.new.stand c.in_ok-place.ensures.placed c.test_at-own.result.now c.test_at-own.ensures c.bound_at-bound.result c.bound_at-bound.ensures c.args.part.now c.make_record.new.part c.in_ok-made.ensures.steps
