@@ -1,2 +1,2 @@
-mod RightKinds
-mod Rooms
+mod Fitting
+mod Programs

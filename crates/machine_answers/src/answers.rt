@@ -1,11 +1,9 @@
 //! Records are kept, and which of them match a run is told.
 
 ghost use Rattle.std.specs.Prelude.{◌<◌, ◌^◌};
-ghost use Rattle.class_table.specs.Faults.{HasRightKinds};
-ghost use Rattle.class_table.specs.Table.{look};
+ghost use Rattle.machine_answers.specs.Programs.{IsAcceptedProgram};
 
 use crate::case::{Case, case_of};
-use crate::landing::can_land;
 use crate::program::program_with;
 use crate::runs::record_of;
 use crate::words::{push_record, push_test};
@@ -15,19 +13,15 @@ use record_rules::RunRecord;
 use run_records::{Lookup, holds_all, matches};
 
 // Keeps the record of the run of a test, and tells it.
-#[tactic(auto, using(crate::proofs::Rooms::runnable))]
 fn keep(
     program: &Program,
     case: &Case,
     records: &mut Seq<RunRecord>,
     out: &mut String,
 ) -> anyhow::Result<()>
-    requires kinds { HasRightKinds (look program.now) }
+    requires program { IsAcceptedProgram program.now }
     requires small { case.now.limits.heap < 2 ^ 31 }
 {
-    if !can_land(program) {
-        anyhow::bail!("a code has no room for what it catches");
-    }
     let record = record_of(program, case, *out.allocator())?;
     push_record(out, &record)?;
     records.push(record)?;

@@ -8,40 +8,24 @@
 //! (`answers`).
 #![tactic(auto)]
 
-ghost use Rattle.class_table.specs.Faults.{HasRightKinds};
-ghost use Rattle.class_table.specs.Table.{look};
-
 mod answers;
 mod case;
-mod landing;
+mod fitting;
 mod program;
 mod runs;
 mod words;
 
 use crate::answers::print_answers;
-use crate::landing::can_land;
 use crate::program::program_of;
 use crate::runs::push_runs;
-use class_table::Program;
 use std::{env, fs};
-
-// Runs the tests of these lines, where an object may be thrown in each code.
-#[tactic(auto, using(crate::proofs::Rooms::runnable))]
-fn push_all(program: &Program, tests: &str, out: &mut String) -> anyhow::Result<()>
-    requires { HasRightKinds (look program.now) }
-{
-    if !can_land(program) {
-        anyhow::bail!("a code has no room for what it catches");
-    }
-    push_runs(program, tests, out)
-}
 
 // Prints the runs of the tests of a file on the class files below a folder.
 fn print_runs(rt: &HostRuntime, folder: &str, tests: &str) -> anyhow::Result<()> {
     let tests = fs::read_to_string(rt, tests)?;
     let program = program_of(rt, folder)?;
     let mut out = String::new(rt.alloc());
-    push_all(&program, tests.as_str(), &mut out)?;
+    push_runs(&program, tests.as_str(), &mut out)?;
     print!(rt; "{out}")?;
     Ok(())
 }

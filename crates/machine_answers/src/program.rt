@@ -1,17 +1,20 @@
 //! The program of the class files below a folder and of the library.
 
-ghost use Rattle.std.specs.Prelude.{IfOk};
-ghost use Rattle.class_table.specs.Faults.{HasRightKinds};
-ghost use Rattle.class_table.specs.Table.{look};
+ghost use Rattle.std.specs.Prelude.{IfOk, OnOk};
+ghost use Rattle.class_reader.specs.Spells.{IsClass};
+ghost use Rattle.suite_program.specs.Programs.{AreSpelled};
+ghost use Rattle.machine_answers.specs.Programs.{IsAcceptedProgram};
 
 use class_model::{Bytes, Seq, SharedBytes};
 use class_reader::read_class;
-use class_table::{LibClass, Loaded, Program, TableFault};
-use lib_table::classes;
+use class_table::{Loaded, Program};
 use mt_edge::{HostTree, Tree};
 use std::alloc::Global;
+use suite_laws::{program_of as program_of_files, ready_may_run, suites_are_safe};
 
-fn loaded(alloc: Global, bytes: Bytes) -> anyhow::Result<Loaded> {
+fn loaded(alloc: Global, bytes: Bytes) -> anyhow::Result<Loaded>
+    ensures { IfOk result (λ l. IsClass l.class) }
+{
     let class = read_class(alloc, bytes.as_slice())?;
     let bytes = SharedBytes::new(alloc, bytes)?;
     Ok(Loaded { bytes, class })
@@ -23,7 +26,10 @@ fn read_one<T: Tree>(
     tree: &mut T,
     path: &str,
     files: &mut Seq<Loaded>,
-) -> anyhow::Result<()> {
+) -> anyhow::Result<()>
+    requires { AreSpelled files.old }
+    ensures { OnOk result (AreSpelled files.new) }
+{
     let Some(bytes) = tree.read(path)? else {
         anyhow::bail!("no class file");
     };
@@ -36,7 +42,10 @@ fn files_below<T: Tree>(
     tree: &mut T,
     folder: &str,
     files: &mut Seq<Loaded>,
-) -> anyhow::Result<()> {
+) -> anyhow::Result<()>
+    requires { AreSpelled files.old }
+    ensures { OnOk result (AreSpelled files.new) }
+{
     for path in tree.list(folder)? {
         if path.as_str().ends_with(".class") {
             read_one(alloc, tree, path.as_str(), files)?;
@@ -52,7 +61,10 @@ fn files_named<T: Tree>(
     folder: &str,
     names: &str,
     files: &mut Seq<Loaded>,
-) -> anyhow::Result<()> {
+) -> anyhow::Result<()>
+    requires { AreSpelled files.old }
+    ensures { OnOk result (AreSpelled files.new) }
+{
     for name in names.split('+') {
         let path = format!(in alloc; "{folder}/{name}.class")?;
         read_one(alloc, tree, path.as_str(), files)?;
@@ -60,33 +72,38 @@ fn files_named<T: Tree>(
     Ok(())
 }
 
-// The program of these classes.
-fn built(alloc: Global, files: Seq<Loaded>, library: Seq<LibClass>) -> Result<Program, TableFault>
-    ensures { IfOk result (λ p. HasRightKinds (look p)) }
+// The program of these class files and of the library, whose code is accepted.
+fn accepted(alloc: Global, files: Seq<Loaded>) -> anyhow::Result<Program>
+    requires { AreSpelled files }
+    ensures { IfOk result IsAcceptedProgram }
 {
-    Program::build(alloc, files, library)
+    suites_are_safe();
+    ready_may_run();
+    match program_of_files(alloc, files) {
+        Ok(program) => {
+            let _count = program.len();
+            Ok(program)
+        }
+        Err(_end) => anyhow::bail!("these class files are refused"),
+    }
 }
 
 /// The program of the class files below a folder and of the library.
 pub fn program_of(rt: &HostRuntime, folder: &str) -> anyhow::Result<Program>
-    ensures { IfOk result (λ p. HasRightKinds (look p)) }
+    ensures { IfOk result IsAcceptedProgram }
 {
     let alloc = rt.alloc();
     let mut files = Seq::new(alloc);
     files_below(alloc, &mut HostTree::new(rt), folder, &mut files)?;
-    let library = classes(alloc)?;
-    let program = built(alloc, files, library)?;
-    Ok(program)
+    accepted(alloc, files)
 }
 
 /// The same of the class files of these names in a folder, which a `+` parts.
 pub fn program_with(rt: &HostRuntime, folder: &str, names: &str) -> anyhow::Result<Program>
-    ensures { IfOk result (λ p. HasRightKinds (look p)) }
+    ensures { IfOk result IsAcceptedProgram }
 {
     let alloc = rt.alloc();
     let mut files = Seq::new(alloc);
     files_named(alloc, &mut HostTree::new(rt), folder, names, &mut files)?;
-    let library = classes(alloc)?;
-    let program = built(alloc, files, library)?;
-    Ok(program)
+    accepted(alloc, files)
 }

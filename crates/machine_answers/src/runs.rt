@@ -1,11 +1,12 @@
 //! Each test with how it ended.
 
 ghost use Rattle.std.specs.Prelude.{◌<◌, ◌^◌};
-ghost use Rattle.class_table.specs.Table.{look};
-ghost use Rattle.jvm_run.specs.Below.{IsRunnable};
 ghost use Rattle.jvm_run.specs.Below.{AreTablesOf};
+ghost use Rattle.suite_laws.specs.Accepted.{FitsProgram};
+ghost use Rattle.machine_answers.specs.Programs.{IsAcceptedProgram};
 
 use crate::case::{Case, case_of};
+use crate::fitting::fits;
 use crate::words::{push_ran, push_recorded, push_test};
 use class_model::Memory;
 use class_table::Program;
@@ -14,6 +15,7 @@ use mt_edge::Meter;
 use record_rules::RunRecord;
 use run_records::make_record;
 use std::alloc::Global;
+use suite_laws::safe_programs_are_accepted;
 
 // The run of a test.
 fn run(
@@ -23,10 +25,12 @@ fn run(
     alloc: Global,
 ) -> Result<RunResult, Memory>
     requires tables { AreTablesOf program.now tables.old }
-    requires runnable { IsRunnable (look program.now) }
+    requires program { IsAcceptedProgram program.now }
     requires small { case.now.limits.heap < 2 ^ 31 }
+    requires fits { FitsProgram program.now case.now.test }
     ensures tables { AreTablesOf program.now tables.new }
 {
+    safe_programs_are_accepted();
     let mut meter = Meter::new();
     let mut part = meter.split();
     let ran = execute(
@@ -43,18 +47,20 @@ fn run(
     ran
 }
 
-// Its record, if it isn't stuck.
+// Its record.
 fn record(
     program: &Program,
     tables: &mut Tables,
     case: &Case,
     alloc: Global,
-) -> Result<Option<RunRecord>, Memory>
+) -> Result<RunRecord, Memory>
     requires tables { AreTablesOf program.now tables.old }
-    requires runnable { IsRunnable (look program.now) }
+    requires program { IsAcceptedProgram program.now }
     requires small { case.now.limits.heap < 2 ^ 31 }
+    requires fits { FitsProgram program.now case.now.test }
     ensures tables { AreTablesOf program.now tables.new }
 {
+    safe_programs_are_accepted();
     let mut meter = Meter::new();
     let mut part = meter.split();
     let made = make_record(
@@ -81,8 +87,9 @@ fn push_case(
     out: &mut String,
 ) -> anyhow::Result<()>
     requires tables { AreTablesOf program.now tables.old }
-    requires runnable { IsRunnable (look program.now) }
+    requires program { IsAcceptedProgram program.now }
     requires small { case.now.limits.heap < 2 ^ 31 }
+    requires fits { FitsProgram program.now case.now.test }
     ensures tables { AreTablesOf program.now tables.new }
 {
     let ran = run(program, tables, case, *out.allocator())?;
@@ -98,14 +105,13 @@ fn push_case_by_record(
     out: &mut String,
 ) -> anyhow::Result<()>
     requires tables { AreTablesOf program.now tables.old }
-    requires runnable { IsRunnable (look program.now) }
+    requires program { IsAcceptedProgram program.now }
     requires small { case.now.limits.heap < 2 ^ 31 }
+    requires fits { FitsProgram program.now case.now.test }
     ensures tables { AreTablesOf program.now tables.new }
 {
-    match record(program, tables, case, *out.allocator())? {
-        Some(record) => push_recorded(out, &record)?,
-        None => out.push_str("no record\n")?,
-    }
+    let record = record(program, tables, case, *out.allocator())?;
+    push_recorded(out, &record)?;
     Ok(())
 }
 
@@ -117,11 +123,14 @@ fn push_run(
     out: &mut String,
 ) -> anyhow::Result<()>
     requires tables { AreTablesOf program.now tables.old }
-    requires runnable { IsRunnable (look program.now) }
+    requires program { IsAcceptedProgram program.now }
     ensures tables { AreTablesOf program.now tables.new }
 {
     let case = case_of(*out.allocator(), line)?;
     push_test(out, &case.test)?;
+    if !fits(*out.allocator(), program, &case.test)? {
+        anyhow::bail!("a call of a script finds no method");
+    }
     if case.by_record {
         push_case_by_record(program, tables, &case, out)
     } else {
@@ -137,7 +146,7 @@ fn push_lines(
     out: &mut String,
 ) -> anyhow::Result<()>
     requires tables { AreTablesOf program.now tables.old }
-    requires runnable { IsRunnable (look program.now) }
+    requires program { IsAcceptedProgram program.now }
 {
     for line in tests.lines() {
         push_run(program, tables, line, out)?;
@@ -147,7 +156,7 @@ fn push_lines(
 
 /// Runs the test of each line, and adds a line for each.
 pub fn push_runs(program: &Program, tests: &str, out: &mut String) -> anyhow::Result<()>
-    requires runnable { IsRunnable (look program.now) }
+    requires program { IsAcceptedProgram program.now }
 {
     let Some(mut tables) = Tables::find(*out.allocator(), program)? else {
         anyhow::bail!("the library lacks a class");
@@ -157,14 +166,15 @@ pub fn push_runs(program: &Program, tests: &str, out: &mut String) -> anyhow::Re
 
 /// The record of the run of a test.
 pub fn record_of(program: &Program, case: &Case, alloc: Global) -> anyhow::Result<RunRecord>
-    requires runnable { IsRunnable (look program.now) }
+    requires program { IsAcceptedProgram program.now }
     requires small { case.now.limits.heap < 2 ^ 31 }
 {
+    if !fits(alloc, program, &case.test)? {
+        anyhow::bail!("a call of a script finds no method");
+    }
     let Some(mut tables) = Tables::find(alloc, program)? else {
         anyhow::bail!("the library lacks a class");
     };
-    match record(program, &mut tables, case, alloc)? {
-        Some(record) => Ok(record),
-        None => anyhow::bail!("no record"),
-    }
+    let record = record(program, &mut tables, case, alloc)?;
+    Ok(record)
 }

@@ -2,7 +2,7 @@
 
 use class_model::{Cause, Memory, Name, Outcome, SharedBytes};
 use class_table::Test;
-use jvm_run::{Ending, RunResult};
+use jvm_run::RunResult;
 use record_rules::RunRecord;
 
 fn push(out: &mut String, text: &str) -> Result<(), Memory> {
@@ -49,19 +49,6 @@ pub fn push_test(out: &mut String, test: &Test) -> Result<(), Memory> {
 
 // ---- a run
 
-fn push_ending(out: &mut String, ending: &Ending) -> Result<(), Memory> {
-    match ending {
-        Ending::With(outcome) => push_outcome(out, outcome),
-        Ending::Stuck { class, method, at } => {
-            push(out, "Stuck at ")?;
-            push_name(out, class)?;
-            push(out, ".")?;
-            push_name(out, method)?;
-            push_number(out, *at as u64, "and")
-        }
-    }
-}
-
 fn push_counts(out: &mut String, steps: u64, names: usize, lines: usize) -> Result<(), Memory> {
     push_number(out, steps, "steps")?;
     push_number(out, names as u64, "names")?;
@@ -70,7 +57,7 @@ fn push_counts(out: &mut String, steps: u64, names: usize, lines: usize) -> Resu
 
 /// How a run ended, its steps, and how many names were consulted and how many lines were reached.
 pub fn push_ran(out: &mut String, ran: &RunResult) -> Result<(), Memory> {
-    push_ending(out, &ran.ending)?;
+    push_outcome(out, &ran.outcome)?;
     push_counts(out, ran.steps, ran.consulted.len(), ran.reached.len())
 }
 

@@ -4,7 +4,7 @@ ghost use Rattle.std.specs.Prelude.{◌≡◌, ◌+◌, ◌≤◌, ◌<◌, ◌^
 ghost use Rattle.machine_rules.specs.Runs.{run_of};
 ghost use Rattle.class_table.specs.Table.{look};
 ghost use Rattle.jvm_world.specs.View.{test_of};
-ghost use Rattle.jvm_run.specs.Below.{IsRunnable};
+ghost use Rattle.jvm_run.specs.Below.{IsAcceptedFor, IsRunnable};
 ghost use Rattle.jvm_run.specs.Result.{IsResultOf};
 ghost use Rattle.jvm_run.specs.Below.{AreTablesOf};
 
@@ -15,7 +15,7 @@ use machine_rules::Limits;
 use mt_edge::MeterPart;
 use std::alloc::Global;
 
-/// Runs a test on a program, for so many steps at most.
+/// Runs a test on a program that is accepted for it, for so many steps at most.
 pub fn execute(
     alloc: Global,
     p: &Program,
@@ -27,6 +27,7 @@ pub fn execute(
 ) -> Result<RunResult, Memory>
     requires tables { AreTablesOf p.now tables.old }
     requires runnable { IsRunnable (look p.now) }
+    requires accepted { IsAcceptedFor (look p.now) (test_of test.now) }
     requires small { limits.heap < 2 ^ 31 }
     requires room { part.old + limit < 2 ^ 64 }
     ensures run { IfOk result (λ r.

@@ -5,7 +5,7 @@ ghost use Rattle.machine_rules.specs.State.{start};
 ghost use Rattle.class_table.specs.Table.{look};
 ghost use Rattle.jvm_world.specs.View.{test_of};
 ghost use Rattle.jvm_world.specs.Classes.{AreMachineClasses};
-ghost use Rattle.jvm_run.specs.Below.{Answers, HasFewMonitors, HasMeaning, IsMachineOf, IsMachineStill, StandsFor};
+ghost use Rattle.jvm_run.specs.Below.{Answers, HasCome, HasFewMonitors, IsMachineOf, IsMachineStill, StandsFor};
 ghost use Rattle.jvm_run.specs.Below.{IsRunnable};
 ghost use Rattle.jvm_run.specs.Below.{AreTablesOf};
 
@@ -35,7 +35,7 @@ pub fn start(
     Ok(m)
 }
 
-/// One step of a machine.
+/// One step of a machine that runs a test of accepted code.
 pub fn step(
     m: &mut Machine,
     alloc: Global,
@@ -46,7 +46,7 @@ pub fn step(
     requires tables { AreTablesOf p.now tables.old }
     requires runnable { IsRunnable (look p.now) }
     requires few { HasFewMonitors m.old.world }
-    requires meaning { HasMeaning p.now m.old.world }
+    requires come { HasCome p.now m.old }
     ensures step { IfOk result (λ r. Answers p.now r m.old m.new) }
     ensures still { OnOk result (IsMachineStill p.now m.old m.new) }
     ensures tables { AreTablesOf p.now tables.new }
