@@ -1,6 +1,7 @@
 //! Whether the calls of a test find their methods in a program.
 
-ghost use Rattle.std.specs.Prelude.{◌≡◌, ◌<◌, None, true, length, IfOk};
+ghost use Rattle.std.specs.Prelude.{◌≡◌, ◌<◌, None, true, length, slice_get, IfOk};
+ghost use Rattle.std.specs.Option.{option_copied};
 ghost use Rattle.program_rules.specs.Names.{instance_initializer, plain_descriptor, same};
 ghost use Rattle.class_table.specs.Table.{look, name_at};
 ghost use Rattle.suite_laws.specs.Accepted.{FitsProgram};
@@ -10,7 +11,7 @@ ghost use Rattle.machine_answers.specs.Fitting.{FitCalls, FitsCall, IsPlain, IsR
 use class_model::flags::{is_abstract, is_static};
 use class_model::names::{ascii, is_text};
 use class_model::{ClassId, Memory, Name};
-use class_table::{Call, CallKind, LinkedBody, LinkedMethod, Program, Test};
+use class_table::{Call, CallKind, LinkedBody, LinkedClass, LinkedMethod, Program, Test};
 use jvm_link::declared_method;
 use std::alloc::Global;
 
@@ -89,6 +90,12 @@ fn is_right(
     }
 }
 
+fn method_at(class: &LinkedClass, place: usize) -> Option<&LinkedMethod>
+    ensures { option_copied result ≡ slice_get class.now.methods place }
+{
+    class.methods.get(place)
+}
+
 // Whether a call finds its method in its class. `plain` is the descriptor of such a method.
 fn fits_call(
     program: &Program,
@@ -106,7 +113,7 @@ fn fits_call(
     let Some(place) = declared_method(program, class, &call.method, plain) else {
         return false;
     };
-    let Some(method) = program.method(class, place as u32) else {
+    let Some(method) = method_at(program.info(class).linked(), place) else {
         return false;
     };
     if !is_plain(method) {

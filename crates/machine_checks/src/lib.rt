@@ -22,4 +22,5 @@ pub mod runs;
 pub mod stacks;
 pub mod steps;
 pub mod storing;
+pub mod verified;
 pub mod written;
