@@ -15,10 +15,9 @@ use Rattle.jvm_frames.specs.Frames.{NumberedFrame, NumberedFrames, IsAt}
 use Rattle.jvm_frames.specs.Staying.{Stays, StayOn}
 use Rattle.jvm_step.proofs.Below.{some_and}
 use Rattle.jvm_world.specs.declared.world.World.{World}
-use Rattle.jvm_world.specs.View.{IsKept, IsWorldOf, Means}
+use Rattle.jvm_world.specs.View.{IsKept, Means}
 use Rattle.jvm_step.specs.Below.{Turn}
 use Rattle.jvm_step.specs.Below.jvm_unwind_declared_turn_Turn_TheVariants as turn
-use Rattle.jvm_step.specs.Below.{frames_of}
 use Rattle.jvm_step.proofs.Below.{with_some}
 use Rattle.jvm_step.specs.Below.{IsOfMethod}
 use Rattle.jvm_step.specs.Below.{MethodCode}
@@ -31,20 +30,19 @@ use Rattle.jvm_step.proofs.Below.jvm_act_Executed as executed
 use Rattle.jvm_step.specs.Below.{IsLineReached, ReachesLine, lines_of}
 use Rattle.jvm_step.specs.Below.{AreMarkedRight, AreReached, Marked}
 use Rattle.jvm_step.proofs.Below.{reached_same}
-use Rattle.jvm_run.specs.declared.advancing.Went.TheVariants as went
-use Rattle.jvm_run.specs.Advancing.{IsWithin, StaysMachine, StaysMarked, WentTo, went_by}
+use Rattle.jvm_run.specs.Advancing.{GoesSteps, IsWithin, StaysMachine, StaysMarked, WentTo, went_by}
 use Rattle.jvm_step.specs.declared.machine.Machine.{Machine}
 use Rattle.jvm_step.specs.declared.machine.Step.{Step}
 use Rattle.jvm_step.specs.declared.machine.Step.TheVariants as step
-use Rattle.jvm_run.specs.declared.taking.Taken.{Taken}
-use Rattle.jvm_run.specs.declared.taking.Taken.TheVariants as taken
 use Rattle.jvm_step.specs.Going.{GoesTo}
 use Rattle.jvm_step.specs.Machines.{Answers, HasMeaning, HasNoRow, IsMachineOf, IsMachineStill, TellsEnd, ended_with, over_or}
-use Rattle.jvm_run.specs.Passing.{Fits, HasMark, IsCalm, IsReachedIn, IsUpTo, RunsReached, StaysReady, Took, plus, went_of}
-use Rattle.jvm_run.specs.Running.{HasRun}
+use Rattle.jvm_run.specs.Passing.{HasMark, IsCalm, IsReachedIn, RunsReached, Took}
+use Rattle.jvm_run.specs.Running.{HasRun, IsRunning}
+use Rattle.jvm_run.proofs.Ran.{running_comes, running_means, running_on}
+use Rattle.jvm_step.proofs.Coming as coming
+use Rattle.type_laws.specs.Soundness.{NeverStuck}
 use Rattle.jvm_step.proofs.Ends.{tells_end}
 use Rattle.jvm_step.proofs.Going as going
-use Rattle.jvm_step.proofs.Kept.{kept_same}
 use Rattle.jvm_run.proofs.Stays as stays
 use Rattle.jvm_step.proofs.Stepped as stepped
 
@@ -117,55 +115,30 @@ module _ (p : List Info) (m : Machine) (code : MethodCode) (marks : List Bool) (
 
 -- ---- what it comes to
 
-no_step : (n : ℕ) → taken.Steps (suc n) ≡ taken.Steps 0 → ⊥
-no_step n e = cc
-
-not_stuck : (n : ℕ) → taken.Stuck n ≡ taken.Steps 0 → ⊥
-not_stuck n e = cc
-
-steps_same : (n k : ℕ) → taken.Steps n ≡ taken.Steps k → n ≡ k
-steps_same n k e = cc
-
 keeps_all : (rs : List (Name × ℕ)) → KeepsLines rs rs
 keeps_all rs class line h = h
 
-pub took_none : (p : List Info) (limit : ℕ) (m : Machine) → IsMachineOf p m → HasMeaning p m.world → Took p limit m m (taken.Steps 0)
-took_none p limit m is meaning = record {
+pub took_none : (p : List Info) (limit : ℕ) (m : Machine) → IsMachineOf p m → Took p limit m m 0
+took_none p limit m is = record {
   within = omega arith;
   goes = stays.none_taken p m;
   same = λ e. refl;
   machine = is;
-  ready = (meaning, keeps_all (lines_of p m.world));
+  lines = keeps_all (lines_of p m.world);
 }
 
-pub took_same : (p : List Info) (limit : ℕ) (m : Machine) (fs : NumberedFrames) (u : World) → IsMachineOf p m → HasMeaning p m.world → fs ≡ m.frames → u ≡ m.world → Took p limit m (record { frames = fs; thrown = m.thrown; world = u }) (taken.Steps 0)
-took_same p limit m fs u is meaning frames world =
+pub took_same : (p : List Info) (limit : ℕ) (m : Machine) (fs : NumberedFrames) (u : World) → IsMachineOf p m → fs ≡ m.frames → u ≡ m.world → Took p limit m (record { frames = fs; thrown = m.thrown; world = u }) 0
+took_same p limit m fs u is frames world =
     let e : (record { frames = fs; thrown = m.thrown; world = u }) ≡ m = (λ k. record { frames = frames k; thrown = m.thrown; world = world k }) in
-    subst (λ n. Took p limit m n (taken.Steps 0)) (sym e) (took_none p limit m is meaning)
+    subst (λ n. Took p limit m n 0) (sym e) (took_none p limit m is)
 
--- A machine that stands for the state behind a step means its world.
-meaning_behind : (p : List Info) (m new : Machine) → HasMeaning p m.world → Answers p step.Next m new → HasMeaning p new.world
-meaning_behind p m new h answer =
-    let s : def.MachineState = record { frames = frames_of p m.frames; thrown = m.thrown; world = h.world } in
-    let to = answer s (record { frames = refl; thrown = refl; world = h.means }) in
-    record { world = to.state.world; means = to.stands.world }
-
-took_one : (p : List Info) (m new : Machine) → HasMeaning p m.world → Answers p step.Next m new → IsMachineStill p m new → Took p 1 m new (taken.Steps 1)
+took_one : (p : List Info) (m new : Machine) → HasMeaning p m.world → Answers p step.Next m new → IsMachineStill p m new → Took p 1 m new 1
 took_one p m new meaning answer still = record {
   within = omega arith;
   goes = stays.one_taken p m new answer still;
-  same = λ e. absurd (no_step 0 e);
+  same = λ e. absurd (omega (arith, e));
   machine = still.machine;
-  ready = (meaning_behind p m new meaning answer, stays.keeps p m new meaning answer);
-}
-
-took_stuck : (p : List Info) (m new : Machine) → HasNoRow p m → IsMachineOf p new → Took p 1 m new (taken.Stuck 0)
-took_stuck p m new none is = record {
-  within = omega arith;
-  goes = λ q limit i s run lt. let e : i ≡ i + 0 = omega arith in (m, subst (λ k. HasRun p q limit k s m) e run, none);
-  same = λ e. absurd (not_stuck 0 e);
-  machine = is;
-  ready = tt;
+  lines = stays.keeps p m new meaning answer;
 }
 
 -- ---- one step, as what a machine does that goes on
@@ -188,77 +161,59 @@ machine_by p new (step.Ended o) h = h
 
 -- ---- by the turn of the instruction
 
-module _ (p : List Info) (m : Machine) (code : MethodCode) (marks : List Bool) (fs : NumberedFrames) (u : World) (calm : IsCalm m) (runs : RunsReached p code marks m) (meaning : HasMeaning p m.world) (marked : IsSomeAnd m.frames.frame (HasMark marks)) (are : AreFramesOf p fs) (kept : IsKept p m.world u) where
+module _ (p : List Info) (m : Machine) (code : MethodCode) (marks : List Bool) (fs : NumberedFrames) (u : World) (calm : IsCalm m) (runs : RunsReached p code marks m) (running : IsRunning p 1 m) (marked : IsSomeAnd m.frames.frame (HasMark marks)) (are : AreFramesOf p fs) (kept : IsKept p m.world u) where
   still_of : (x : Option ℕ) → IsMachineStill p m (record { frames = fs; thrown = x; world = u })
   still_of x = stepped.still p m (record { frames = fs; thrown = x; world = u }) are kept
 
-  pub took_goes : Turned p (acting p) turn.Goes m.frames fs m.world u → Took p 1 m (record { frames = fs; thrown = m.thrown; world = u }) (taken.Steps 1)
+  pub took_goes : Turned p (acting p) turn.Goes m.frames fs m.world u → Took p 1 m (record { frames = fs; thrown = m.thrown; world = u }) 1
   took_goes h =
-      took_one p m (record { frames = fs; thrown = m.thrown; world = u }) meaning (answers_goes p m code marks fs u calm runs marked h) (still_of m.thrown)
+      took_one p m (record { frames = fs; thrown = m.thrown; world = u }) (running_means p 1 m running) (answers_goes p m code marks fs u calm runs marked h) (still_of m.thrown)
 
-  pub took_throws : (x : ℕ) → Turned p (acting p) (turn.Throws x) m.frames fs m.world u → Took p 1 m (record { frames = fs; thrown = Some x; world = u }) (taken.Steps 1)
+  pub took_throws : (x : ℕ) → Turned p (acting p) (turn.Throws x) m.frames fs m.world u → Took p 1 m (record { frames = fs; thrown = Some x; world = u }) 1
   took_throws x h =
-      took_one p m (record { frames = fs; thrown = Some x; world = u }) meaning (answers_throws p m code marks fs u calm runs marked x h) (still_of (Some x))
+      took_one p m (record { frames = fs; thrown = Some x; world = u }) (running_means p 1 m running) (answers_throws p m code marks fs u calm runs marked x h) (still_of (Some x))
 
-  pub took_no_row : Turned p (acting p) turn.NoRow m.frames fs m.world u → Took p 1 m (record { frames = fs; thrown = m.thrown; world = u }) (taken.Stuck 0)
-  took_no_row h =
-      let new : Machine = record { frames = fs; thrown = m.thrown; world = u } in
-      took_stuck p m new (has_no_row p m code marks fs u calm runs marked h) (still_of m.thrown).machine
+  -- A row applies, for the code is accepted.
+  pub has_row : NeverStuck → Turned p (acting p) turn.NoRow m.frames fs m.world u → ⊥
+  has_row law h = coming.never_stuck law p m (running_comes p 1 m running) (has_no_row p m code marks fs u calm runs marked h)
 
 -- ---- one after the other
 
-both_within : (limit k a : ℕ) (r : Taken) → a + k ≤ limit → IsUpTo k r → IsUpTo limit (plus a r)
-both_within limit k a (taken.Steps n) lt h = omega (arith, lt, h)
-both_within limit k a (taken.Stuck n) lt h = omega (arith, lt, h)
-
-both_went : (p : List Info) (a : ℕ) (m between new : Machine) (r : Taken) → WentTo p (went.Steps a) m between → WentTo p (went_of r) between new → WentTo p (went_of (plus a r)) m new
-both_went p a m between new (taken.Steps n) first second = λ q limit i s run lt.
+both_goes : (p : List Info) (a n : ℕ) (m between new : Machine) → GoesSteps p a m between → GoesSteps p n between new → GoesSteps p (a + n) m new
+both_goes p a n m between new first second = λ q limit i s run lt.
     let e : i + a + n ≡ i + (a + n) = omega arith in
     subst (λ k. HasRun p q limit k s new) e
     (second q limit (i + a) s (first q limit i s run (omega (arith, lt))) (omega (arith, lt)))
-both_went p a m between new (taken.Stuck n) first second = λ q limit i s run lt.
-    let e : i + a + n ≡ i + (a + n) = omega arith in
-    let last = second q limit (i + a) s (first q limit i s run (omega (arith, lt))) (omega (arith, lt)) in
-    (last.0, subst (λ k. HasRun p q limit k s last.0) e last.1, last.2)
 
-both_same : (a : ℕ) (m between new : Machine) (r : Taken) → (taken.Steps a ≡ taken.Steps 0 → between ≡ m) → (r ≡ taken.Steps 0 → new ≡ between) → plus a r ≡ taken.Steps 0 → new ≡ m
-both_same a m between new (taken.Steps n) first second e =
-    let none : a + n ≡ 0 = steps_same (a + n) 0 e in
-    let a_none : a ≡ 0 = omega (arith, none) in
-    let n_none : n ≡ 0 = omega (arith, none) in
-    second (ap taken.Steps n_none) ∙ first (ap taken.Steps a_none)
-both_same a m between new (taken.Stuck n) first second e = absurd (not_stuck (a + n) e)
+both_same : (a n : ℕ) (m between new : Machine) → (a ≡ 0 → between ≡ m) → (n ≡ 0 → new ≡ between) → a + n ≡ 0 → new ≡ m
+both_same a n m between new first second none = second (omega (arith, none)) ∙ first (omega (arith, none))
 
-both_ready : (p : List Info) (a : ℕ) (m between new : Machine) (r : Taken) → StaysReady p (taken.Steps a) m between → StaysReady p r between new → StaysReady p (plus a r) m new
-both_ready p a m between new (taken.Steps n) first second =
-    (second.0, λ class line h. second.1 class line (first.1 class line h))
-both_ready p a m between new (taken.Stuck n) first second = tt
-
-pub took_both : (p : List Info) (limit most k a : ℕ) (m between new : Machine) (r : Taken) → Took p most m between (taken.Steps a) → Took p k between new r → a + k ≤ limit → Took p limit m new (plus a r)
-took_both p limit most k a m between new r first second lt = record {
-  within = both_within limit k a r lt second.within;
-  goes = both_went p a m between new r first.goes second.goes;
-  same = both_same a m between new r first.same second.same;
+pub took_both : (p : List Info) (limit most k a n : ℕ) (m between new : Machine) → Took p most m between a → Took p k between new n → a + k ≤ limit → Took p limit m new (a + n)
+took_both p limit most k a n m between new first second lt = record {
+  within = (let le = second.within in omega (arith, le, lt));
+  goes = both_goes p a n m between new first.goes second.goes;
+  same = both_same a n m between new first.same second.same;
   machine = second.machine;
-  ready = both_ready p a m between new r first.ready second.ready;
+  lines = λ class line h. second.lines class line (first.lines class line h);
 }
 
--- The same in a loop, where it has gone on.
-pub took_more : (p : List Info) (limit done n : ℕ) (m between new : Machine) (r : Taken) → done ≤ limit → r ≡ taken.Steps n → Took p limit m between (taken.Steps done) → Took p (limit - done) between new r → Took p limit m new (taken.Steps (done + n))
-took_more p limit done n m between new r lt is first second =
-    took_both p limit limit (limit - done) done m between new (taken.Steps n) first (subst (Took p (limit - done) between new) is second) (omega (arith, lt))
+-- The same in a loop.
+pub took_more : (p : List Info) (limit done n : ℕ) (m between new : Machine) → done ≤ limit → Took p limit m between done → Took p (limit - done) between new n → Took p limit m new (done + n)
+took_more p limit done n m between new lt first second =
+    took_both p limit limit (limit - done) done n m between new first second (omega (arith, lt))
 
-pub marked_more : (p : List Info) (limit n : ℕ) (ms : List Marked) (m new : Machine) (r : Taken) → r ≡ taken.Steps n → Took p limit m new r → AreMarkedRight p ms (lines_of p m.world) → AreMarkedRight p ms (lines_of p new.world)
-marked_more p limit n ms m new r is took right =
-    stays.marked_on p ms (lines_of p m.world) (lines_of p new.world) (subst (Took p limit m new) is took).ready.1 right
+-- So it is where nothing more was taken.
+pub took_no_more : (p : List Info) (limit done n : ℕ) (m between new : Machine) → done ≤ limit → n ≡ 0 → Took p limit m between done → Took p (limit - done) between new n → Took p limit m new done
+took_no_more p limit done n m between new lt none first second =
+    let e : done + n ≡ done = omega (arith, none) in
+    subst (Took p limit m new) e (took_more p limit done n m between new lt first second)
+
+pub marked_more : (p : List Info) (limit n : ℕ) (ms : List Marked) (m new : Machine) → Took p limit m new n → AreMarkedRight p ms (lines_of p m.world) → AreMarkedRight p ms (lines_of p new.world)
+marked_more p limit n ms m new took right = stays.marked_on p ms (lines_of p m.world) (lines_of p new.world) took.lines right
 
 -- Lines that were reached stay so.
-pub reached_more : (p : List Info) (limit n class method : ℕ) (marks : List Bool) (m new : Machine) → Took p limit m new (taken.Steps n) → AreReached p class method marks (lines_of p m.world) → AreReached p class method marks (lines_of p new.world)
-reached_more p limit n class method marks m new took reached = λ at is. stays.reached_on _ _ _ (lines_of p m.world) (lines_of p new.world) took.ready.1 (reached at is)
-
-pub fits : (k a limit : ℕ) (r : Taken) → IsUpTo k r → a + k ≤ limit → limit < 2 ^ 64 → Fits a r
-fits k a limit (taken.Steps n) h lt small = omega (arith, h, lt, small)
-fits k a limit (taken.Stuck n) h lt small = omega (arith, h, lt, small)
+pub reached_more : (p : List Info) (limit n class method : ℕ) (marks : List Bool) (m new : Machine) → Took p limit m new n → AreReached p class method marks (lines_of p m.world) → AreReached p class method marks (lines_of p new.world)
+reached_more p limit n class method marks m new took reached = λ at is. stays.reached_on _ _ _ (lines_of p m.world) (lines_of p new.world) took.lines (reached at is)
 
 -- The running frame is of a method with these marks.
 pub runs_reached : (p : List Info) (m : Machine) (class method at : ℕ) (code : MethodCode) (marks : List Bool) → IsSomeAnd m.frames.frame (IsAt class method at) → IsCodeOf p class method code → AreReached p class method marks (lines_of p m.world) → RunsReached p code marks m
@@ -349,13 +304,17 @@ module _ (p : List Info) (m : Machine) (code : MethodCode) (marks : List Bool) (
       let callers : fs.callers ≡ m.frames.callers = stayed_on.callers in
       (λ k. record { frames = record { frame = frame k; callers = callers k }; thrown = m.thrown; world = m.world })
 
-  pub took_stayed : (limit : ℕ) → n ≤ limit → HasMeaning p m.world → Took p limit m stayed_machine (taken.Steps n)
-  took_stayed limit lt meaning = record {
+  pub took_stayed : (limit : ℕ) → n ≤ limit → Took p limit m stayed_machine n
+  took_stayed limit lt = record {
     within = lt;
     goes = stays.many_taken p m stayed_from.0.class stayed_from.0.method stayed_from.0.at n code marks fs calm.thrown calm.lives
         (and_some m.frames.frame stayed_from.0 (IsAt stayed_from.0.class stayed_from.0.method stayed_from.0.at) stayed_from.1 (record { class = refl; method = refl; at = refl }))
         stayed_from.2.of stayed_from.2.reached stay;
-    same = λ e. none_moved (steps_same n 0 e);
+    same = none_moved;
     machine = stayed_is;
-    ready = (meaning, keeps_all (lines_of p m.world));
+    lines = keeps_all (lines_of p m.world);
   }
+
+  -- It has one step more, if it has.
+  pub stayed_running : (limit : ℕ) → n + 1 ≤ limit → IsRunning p limit m → IsRunning p 1 stayed_machine
+  stayed_running limit lt running = running_on p limit n 1 m stayed_machine running (took_stayed limit (omega (arith, lt))).goes lt

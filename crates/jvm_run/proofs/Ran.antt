@@ -25,13 +25,12 @@ use Rattle.jvm_run.specs.declared.result.RunResult.{RunResult}
 use Rattle.jvm_run.specs.Ending.{IsOutcomeBy}
 use Rattle.jvm_step.specs.Coming.{HasCome, after, next_or}
 use Rattle.jvm_step.specs.Programs.{IsAcceptedFor}
-use Rattle.jvm_step.proofs.Coming as coming
-use Rattle.jvm_step.specs.Machines.{Answers, HasFewMonitors, HasMeaning, HasNoRow, IsMachineOf, IsMachineStill, StandsFor, TellsEnd, outcome_by, run_outcome}
+use Rattle.jvm_step.specs.Machines.{Answers, HasFewMonitors, HasMeaning, IsMachineOf, IsMachineStill, StandsFor, TellsEnd, outcome_by, run_outcome}
 use Rattle.jvm_run.specs.Result.{IsResultOf, TellsRun}
 use Rattle.jvm_step.proofs.Going.{counts_are}
-use Rattle.jvm_run.specs.Running.{EndsSo, HasRun, start_of}
+use Rattle.jvm_run.specs.Advancing.{GoesSteps}
+use Rattle.jvm_run.specs.Running.{EndsSo, HasRun, IsRunning, start_of}
 use Rattle.jvm_world.specs.View.{test_of}
-use Rattle.type_laws.specs.Soundness.{NeverStuck}
 
 -- ---- one step on, in the definitions
 
@@ -125,8 +124,25 @@ comes p q limit i t m accepted h = record {
   stands = subst (λ k. StandsFor p m (after (look p) k i (start_of p t))) (sym h.limits) h.stands;
 }
 
-pub never_stuck : NeverStuck → (p : List Info) (q : Limits) (limit i : ℕ) (t : Test) (m : Machine) → IsAcceptedFor (look p) (test_of t) → HasRun p q limit i (start_of p t) m → HasNoRow p m → ⊥
-never_stuck law p q limit i t m accepted h none = coming.never_stuck law p m (comes p q limit i t m accepted h) none
+-- A machine that is in such a run.
+pub running_on : (p : List Info) (k n more : ℕ) (m new : Machine) → IsRunning p k m → GoesSteps p n m new → n + more ≤ k → IsRunning p more new
+running_on p k n more m new r goes lt =
+    let room = r.room in
+    record {
+      test = r.test;
+      accepted = r.accepted;
+      q = r.q;
+      limit = r.limit;
+      taken = r.taken + n;
+      room = omega (arith, lt, room);
+      run = goes r.q r.limit r.taken (start_of p r.test) r.run (omega (arith, lt, room));
+    }
+
+pub running_comes : (p : List Info) (k : ℕ) (m : Machine) → IsRunning p k m → HasCome p m
+running_comes p k m r = comes p r.q r.limit r.taken r.test m r.accepted r.run
+
+pub running_means : (p : List Info) (k : ℕ) (m : Machine) → IsRunning p k m → HasMeaning p m.world
+running_means p k m r = meaning p r.q r.limit r.taken (start_of p r.test) m r.run
 
 limit_outcome : (h : List Object) (e : Option StateEnd) → at_limit (option_map (outcome_by h) e) ≡ With (run_outcome h e)
 limit_outcome h None = refl

@@ -34,8 +34,7 @@ use Rattle.jvm_step.specs.Below.{AreMarkedRight, AreReached, Marked}
 use Rattle.jvm_step.proofs.Below.{lines_are, reached_same}
 use Rattle.jvm_step.specs.declared.machine.Machine.{Machine}
 use Rattle.jvm_step.specs.declared.machine.Step.TheVariants as step
-use Rattle.jvm_run.specs.declared.advancing.Went.TheVariants as went
-use Rattle.jvm_run.specs.Advancing.{WentTo}
+use Rattle.jvm_run.specs.Advancing.{GoesSteps}
 use Rattle.jvm_step.specs.Going.{going}
 use Rattle.jvm_step.specs.Machines.{Answers, HasMeaning, IsMachineStill, over_or}
 use Rattle.jvm_run.specs.Running.{HasRun}
@@ -135,11 +134,11 @@ module _ (p : List Info) (w : World) (callers : List NumberedFrame) (code : Meth
 -- ---- what code knows of it
 
 -- No step leaves the machine as it was.
-pub none_taken : (p : List Info) (m : Machine) → WentTo p (went.Steps 0) m m
+pub none_taken : (p : List Info) (m : Machine) → GoesSteps p 0 m m
 none_taken p m = λ q limit i s run lt. let e : i ≡ i + 0 = omega arith in subst (λ k. HasRun p q limit k s m) e run
 
 -- One step.
-pub one_taken : (p : List Info) (m new : Machine) → Answers p step.Next m new → IsMachineStill p m new → WentTo p (went.Steps 1) m new
+pub one_taken : (p : List Info) (m new : Machine) → Answers p step.Next m new → IsMachineStill p m new → GoesSteps p 1 m new
 one_taken p m new answer still = λ q limit i s run lt. ran.goes_on p q limit i s m new (omega (arith, lt)) run answer still
 
 in_some : (p : List Info) (ops : List Op) (longs : List ℤ) (marks : List Bool) (n : ℕ) (f : NumberedFrame) (o : Option NumberedFrame) → IsSomeAnd o (Stays ops longs marks n f) → (h : NumberedFrame) × (o ≡ Some h) × Stays ops longs marks n f h
@@ -150,7 +149,7 @@ of_some : {A : Type 0} (o : Option A) (x : A) (P : A → Type 0) → o ≡ Some 
 of_some o x P is h = subst (λ k. IfSome k P) is h
 
 -- Many steps of the running frame alone.
-pub many_taken : (p : List Info) (m : Machine) (class place at n : ℕ) (code : MethodCode) (marks : List Bool) (frames : NumberedFrames) → m.thrown ≡ None → m.world.over ≡ None → IsSomeAnd m.frames.frame (IsAt class place at) → IsCodeOf p class place code → AreReached p class place marks (lines_of p m.world) → IfSome m.frames.frame (λ f. StayOn code.code.ops.items code.code.longs.items marks n f m.frames frames) → WentTo p (went.Steps n) m (record { frames = frames; thrown = m.thrown; world = m.world })
+pub many_taken : (p : List Info) (m : Machine) (class place at n : ℕ) (code : MethodCode) (marks : List Bool) (frames : NumberedFrames) → m.thrown ≡ None → m.world.over ≡ None → IsSomeAnd m.frames.frame (IsAt class place at) → IsCodeOf p class place code → AreReached p class place marks (lines_of p m.world) → IfSome m.frames.frame (λ f. StayOn code.code.ops.items code.code.longs.items marks n f m.frames frames) → GoesSteps p n m (record { frames = frames; thrown = m.thrown; world = m.world })
 many_taken p m class place at n code marks frames thrown lives is of right stays =
     let w = m.world in
     let cs = m.frames.callers in

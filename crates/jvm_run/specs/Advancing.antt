@@ -10,18 +10,19 @@ use Rattle.jvm_step.specs.declared.machine.Step.{Step}
 use Rattle.jvm_step.specs.declared.machine.Step.TheVariants as step
 use Rattle.jvm_run.specs.declared.advancing.Went.{Went}
 use Rattle.jvm_run.specs.declared.advancing.Went.TheVariants as went
-use Rattle.jvm_step.specs.Machines.{Answers, HasNoRow, IsMachineOf}
+use Rattle.jvm_step.specs.Machines.{Answers, IsMachineOf}
 use Rattle.jvm_run.specs.Running.{HasRun}
 
--- So many steps further, or what one step answers; or no row applies behind so many.
-abbrev pub WentTo : List Info → Went → Machine → Machine → Type 0
-WentTo p (went.Steps n) old new =
+-- It is so many steps further, in each run in which it is.
+abbrev pub GoesSteps : List Info → ℕ → Machine → Machine → Type 0
+GoesSteps p n old new =
     (q : Limits) (limit i : ℕ) (s : MachineState) → HasRun p q limit i s old → i + n ≤ limit →
     HasRun p q limit (i + n) s new
+
+-- So many steps further, or it had ended before.
+abbrev pub WentTo : List Info → Went → Machine → Machine → Type 0
+WentTo p (went.Steps n) old new = GoesSteps p n old new
 WentTo p (went.Ended o) old new = Answers p (step.Ended o) old new
-WentTo p (went.Stuck n) old new =
-    (q : Limits) (limit i : ℕ) (s : MachineState) → HasRun p q limit i s old → i + n < limit →
-    (last : Machine) × HasRun p q limit (i + n) s last × HasNoRow p last
 
 -- What one step answers, of one that goes on.
 abbrev pub went_by : Step → Went
@@ -32,16 +33,13 @@ went_by (step.Ended o) = went.Ended o
 abbrev pub IsWithin : ℕ → Went → Type 0
 IsWithin limit (went.Steps n) = (0 < n) × (n ≤ limit)
 IsWithin limit (went.Ended o) = Unit {0}
-IsWithin limit (went.Stuck n) = n < limit
 
 -- Where it went on, what has a mark is right still.
 abbrev pub StaysMarked : List Info → Went → List Marked → Machine → Type 0
 StaysMarked p (went.Steps n) ms new = AreMarkedRight p ms (lines_of p new.world)
 StaysMarked p (went.Ended o) ms new = Unit {0}
-StaysMarked p (went.Stuck n) ms new = Unit {0}
 
 -- Where it didn't, it is a machine of the program still.
 abbrev pub StaysMachine : List Info → Went → Machine → Type 0
 StaysMachine p (went.Steps n) new = Unit {0}
 StaysMachine p (went.Ended o) new = IsMachineOf p new
-StaysMachine p (went.Stuck n) new = IsMachineOf p new

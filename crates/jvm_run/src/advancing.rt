@@ -5,13 +5,12 @@ ghost use Rattle.class_table.specs.Table.{look};
 ghost use Rattle.jvm_step.specs.Below.{lines_of};
 ghost use Rattle.jvm_step.specs.Below.{AreMarkedRight};
 ghost use Rattle.jvm_run.specs.Advancing.{IsWithin, StaysMachine, StaysMarked, WentTo, went_by};
-ghost use Rattle.jvm_step.specs.Coming.{HasCome};
+ghost use Rattle.jvm_run.specs.Running.{IsRunning};
 ghost use Rattle.jvm_step.specs.Machines.{HasFewMonitors, IsMachineOf};
 ghost use Rattle.jvm_step.specs.Programs.{IsRunnable};
 ghost use Rattle.jvm_step.specs.Tables.{AreTablesOf};
 
 use crate::passing::pass_on;
-use crate::taking::Taken;
 use class_model::Memory;
 use class_table::Program;
 use jvm_step::{Machine, MethodMarks, StateEnd, Step, Tables, step};
@@ -24,8 +23,6 @@ pub enum Went {
     Steps(u64),
     /// Its state had ended before.
     Ended(StateEnd),
-    /// No row applies behind so many steps. Nothing is known of the machine any more.
-    Stuck(u64),
 }
 
 // What one step answers.
@@ -53,7 +50,7 @@ pub fn advance(
     requires marked { AreMarkedRight p.now marks.old.items (lines_of p.now m.old.world) }
     requires runnable { IsRunnable (look p.now) }
     requires few { HasFewMonitors m.old.world }
-    requires come { HasCome p.now m.old }
+    requires running { IsRunning p.now limit m.old }
     requires limit { 0 < limit }
     ensures within { IfOk result (IsWithin limit) }
     ensures went { IfOk result (λ r. WentTo p.now r m.old m.new) }
@@ -62,15 +59,10 @@ pub fn advance(
     ensures tables { AreTablesOf p.now tables.new }
 {
     let taken = pass_on(m, alloc, p, tables, marks, limit)?;
-    match taken {
-        Taken::Steps(n) => {
-            if n > 0 {
-                return Ok(Went::Steps(n));
-            }
-            let stepped = step(m, alloc, p, tables)?;
-            let went = went_by(stepped);
-            Ok(went)
-        }
-        Taken::Stuck(n) => Ok(Went::Stuck(n)),
+    if taken > 0 {
+        return Ok(Went::Steps(taken));
     }
+    let stepped = step(m, alloc, p, tables)?;
+    let went = went_by(stepped);
+    Ok(went)
 }

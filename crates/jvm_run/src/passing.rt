@@ -8,15 +8,15 @@ ghost use Rattle.jvm_step.specs.Below.{AreLayouts};
 ghost use Rattle.jvm_step.specs.Below.{AreSlots};
 ghost use Rattle.jvm_step.specs.Below.{lines_of};
 ghost use Rattle.jvm_step.specs.Below.{AreMarkedRight, AreReached};
-ghost use Rattle.jvm_run.specs.Advancing.{StaysMarked};
-ghost use Rattle.jvm_step.specs.Machines.{HasMeaning, IsMachineOf};
-ghost use Rattle.jvm_run.specs.Passing.{Took, went_of};
+ghost use Rattle.jvm_step.specs.Machines.{IsMachineOf};
+ghost use Rattle.jvm_run.specs.Passing.{Took};
+ghost use Rattle.jvm_run.specs.Running.{IsRunning};
 ghost use Rattle.jvm_step.specs.Programs.{IsRunnable};
 ghost use Rattle.jvm_step.specs.Tables.{AreTablesOf};
 ghost use Rattle.jvm_step.specs.Below.{AreNatives};
 ghost use Rattle.jvm_step.specs.Below.{AreLookups};
 
-use crate::taking::{Taken, is_calm, take_steps};
+use crate::taking::{is_calm, take_steps};
 use class_family::Walker;
 use class_model::{ClassId, Memory};
 use class_table::Program;
@@ -51,11 +51,11 @@ fn take_in_method(
     class: ClassId,
     number: u32,
     limit: u64,
-) -> Result<Taken, Memory>
+) -> Result<u64, Memory>
     requires machine { IsMachineOf p.now m.old }
     requires code { IsCodeOf p.now class.0 number method.now }
     requires reached { AreReached p.now class.0 number marks.now (lines_of p.now m.old.world) }
-    requires meaning { HasMeaning p.now m.old.world }
+    requires running { IsRunning p.now limit m.old }
     requires kinds { HasRightKinds (look p.now) }
     requires natives { AreNatives p.now natives.now }
     requires lookups { AreLookups p.now lookups.old }
@@ -67,13 +67,13 @@ fn take_in_method(
     ensures layouts { AreLayouts p.now layouts.new }
 {
     if !is_calm(m) {
-        return Ok(Taken::Steps(0));
+        return Ok(0);
     }
     let Some(place) = m.frames.place() else {
-        return Ok(Taken::Steps(0));
+        return Ok(0);
     };
     if !is_of(place, class, number) {
-        return Ok(Taken::Steps(0));
+        return Ok(0);
     }
     let taken = take_steps(
         m, alloc, p, method, marks, natives, lookups, slots, layouts, walker, limit,
@@ -98,11 +98,11 @@ fn stay_in_method(
     class: ClassId,
     number: u32,
     limit: u64,
-) -> Result<Taken, Memory>
+) -> Result<u64, Memory>
     requires machine { IsMachineOf p.now m.old }
     requires code { IsCodeOf p.now class.0 number method.now }
     requires reached { AreReached p.now class.0 number marks.now (lines_of p.now m.old.world) }
-    requires meaning { HasMeaning p.now m.old.world }
+    requires running { IsRunning p.now limit m.old }
     requires kinds { HasRightKinds (look p.now) }
     requires natives { AreNatives p.now natives.now }
     requires lookups { AreLookups p.now lookups.old }
@@ -130,17 +130,12 @@ fn stay_in_method(
             number,
             limit - done,
         )?;
-        match taken {
-            Taken::Steps(n) => {
-                done += n;
-                if n == 0 {
-                    return Ok(Taken::Steps(done));
-                }
-            }
-            Taken::Stuck(n) => return Ok(Taken::Stuck(done + n)),
+        if taken == 0 {
+            return Ok(done);
         }
+        done += taken;
     }
-    Ok(Taken::Steps(done))
+    Ok(done)
 }
 
 // Takes steps of instructions of the running frame's method whose lines were reached, so many at
@@ -153,26 +148,26 @@ fn pass(
     tables: &mut Tables,
     marks: &mut Vec<MethodMarks>,
     limit: u64,
-) -> Result<Taken, Memory>
+) -> Result<u64, Memory>
     requires machine { IsMachineOf p.now m.old }
     requires tables { AreTablesOf p.now tables.old }
     requires marked { AreMarkedRight p.now marks.old.items (lines_of p.now m.old.world) }
     requires runnable { IsRunnable (look p.now) }
-    requires meaning { HasMeaning p.now m.old.world }
+    requires running { IsRunning p.now limit m.old }
     ensures took { IfOk result (Took p.now limit m.old m.new) }
     ensures marked { OnOk result (
         AreMarkedRight p.now marks.new.items (lines_of p.now m.old.world)) }
     ensures tables { AreTablesOf p.now tables.new }
 {
     let Some(place) = m.frames.place() else {
-        return Ok(Taken::Steps(0));
+        return Ok(0);
     };
     let Some(method) = tables.codes.get(p, place.class, place.method) else {
-        return Ok(Taken::Steps(0));
+        return Ok(0);
     };
     note_line(marks, p, &m.world, method, place)?;
     let Some(here) = marks_of(marks, place.class, place.method) else {
-        return Ok(Taken::Steps(0));
+        return Ok(0);
     };
     let taken = stay_in_method(
         m,
@@ -202,28 +197,24 @@ pub fn pass_on(
     tables: &mut Tables,
     marks: &mut Vec<MethodMarks>,
     limit: u64,
-) -> Result<Taken, Memory>
+) -> Result<u64, Memory>
     requires machine { IsMachineOf p.now m.old }
     requires tables { AreTablesOf p.now tables.old }
     requires marked { AreMarkedRight p.now marks.old.items (lines_of p.now m.old.world) }
     requires runnable { IsRunnable (look p.now) }
-    requires meaning { HasMeaning p.now m.old.world }
+    requires running { IsRunning p.now limit m.old }
     ensures took { IfOk result (Took p.now limit m.old m.new) }
-    ensures marked { IfOk result (λ r. StaysMarked p.now (went_of r) marks.new.items m.new) }
+    ensures marked { OnOk result (
+        AreMarkedRight p.now marks.new.items (lines_of p.now m.new.world)) }
     ensures tables { AreTablesOf p.now tables.new }
 {
     let mut done = 0;
     while done < limit {
         let taken = pass(m, alloc, p, tables, marks, limit - done)?;
-        match taken {
-            Taken::Steps(n) => {
-                done += n;
-                if n == 0 {
-                    return Ok(Taken::Steps(done));
-                }
-            }
-            Taken::Stuck(n) => return Ok(Taken::Stuck(done + n)),
+        if taken == 0 {
+            return Ok(done);
         }
+        done += taken;
     }
-    Ok(Taken::Steps(done))
+    Ok(done)
 }

@@ -22,7 +22,6 @@ use jvm_step::{Machine, MethodMarks, StateEnd, Tables};
 use machine_rules::Limits;
 use mt_edge::MeterPart;
 use std::alloc::Global;
-use type_laws::accepted_code_is_never_stuck;
 
 // Counts so many steps.
 fn tick_all(part: &mut MeterPart, steps: u64)
@@ -70,10 +69,6 @@ fn run(
                 done += n;
             }
             Went::Ended(end) => return Ok((Some(end), done)),
-            Went::Stuck(_steps) => {
-                accepted_code_is_never_stuck();
-                unreachable!()
-            }
         }
     }
     let end = m.end(p);

@@ -9,8 +9,9 @@ ghost use Rattle.jvm_step.specs.Below.{Turned};
 ghost use Rattle.jvm_step.specs.Below.{AreLayouts};
 ghost use Rattle.jvm_step.specs.Below.{AreSlots};
 ghost use Rattle.jvm_frames.specs.Staying.{StayOn};
-ghost use Rattle.jvm_step.specs.Machines.{HasMeaning, IsMachineOf};
-ghost use Rattle.jvm_run.specs.Passing.{Fits, HasMark, IsCalm, RunsReached, Took, plus};
+ghost use Rattle.jvm_step.specs.Machines.{IsMachineOf};
+ghost use Rattle.jvm_run.specs.Passing.{HasMark, IsCalm, RunsReached, Took};
+ghost use Rattle.jvm_run.specs.Running.{IsRunning};
 ghost use Rattle.jvm_step.specs.Below.{AreNatives};
 ghost use Rattle.jvm_step.specs.Below.{AreLookups};
 ghost use Rattle.jvm_world.specs.View.{IsWorldOf, IsKept};
@@ -25,15 +26,7 @@ use jvm_step::{
 };
 use jvm_world::World;
 use std::alloc::Global;
-
-/// What a machine came to by instructions whose lines were reached.
-#[derive(Clone, Copy)]
-pub enum Taken {
-    /// So many steps. None leaves the machine as it was.
-    Steps(u64),
-    /// No row applies behind so many steps. Nothing is known of the machine any more.
-    Stuck(u64),
-}
+use type_laws::accepted_code_is_never_stuck;
 
 /// Whether no object is thrown in a machine that isn't over.
 pub fn is_calm(m: &Machine) -> bool
@@ -139,11 +132,11 @@ fn take_marked(
     slots: &mut Slots,
     layouts: &mut Layouts,
     walker: &mut Walker,
-) -> Result<Taken, Memory>
+) -> Result<u64, Memory>
     requires machine { IsMachineOf p.now m.old }
     requires calm { IsCalm m.old }
     requires runs { RunsReached p.now method.now marks.now m.old }
-    requires meaning { HasMeaning p.now m.old.world }
+    requires running { IsRunning p.now 1 m.old }
     requires kinds { HasRightKinds (look p.now) }
     requires natives { AreNatives p.now natives.now }
     requires lookups { AreLookups p.now lookups.old }
@@ -168,26 +161,18 @@ fn take_marked(
         walker,
     )?;
     match done {
-        None => Ok(Taken::Steps(0)),
+        None => Ok(0),
         Some(turn) => match turn {
-            Turn::NoRow => Ok(Taken::Stuck(0)),
-            Turn::Goes => Ok(Taken::Steps(1)),
+            Turn::NoRow => {
+                accepted_code_is_never_stuck();
+                unreachable!()
+            }
+            Turn::Goes => Ok(1),
             Turn::Throws(object) => {
                 m.thrown = Some(object);
-                Ok(Taken::Steps(1))
+                Ok(1)
             }
         },
-    }
-}
-
-// What was taken behind so many steps.
-fn plus(before: u64, taken: Taken) -> Taken
-    requires { Fits before taken }
-    ensures { result ≡ plus before taken }
-{
-    match taken {
-        Taken::Steps(n) => Taken::Steps(before + n),
-        Taken::Stuck(n) => Taken::Stuck(before + n),
     }
 }
 
@@ -205,11 +190,11 @@ pub fn take_steps(
     layouts: &mut Layouts,
     walker: &mut Walker,
     limit: u64,
-) -> Result<Taken, Memory>
+) -> Result<u64, Memory>
     requires machine { IsMachineOf p.now m.old }
     requires calm { IsCalm m.old }
     requires runs { RunsReached p.now method.now marks.now m.old }
-    requires meaning { HasMeaning p.now m.old.world }
+    requires running { IsRunning p.now limit m.old }
     requires kinds { HasRightKinds (look p.now) }
     requires natives { AreNatives p.now natives.now }
     requires lookups { AreLookups p.now lookups.old }
@@ -222,11 +207,11 @@ pub fn take_steps(
 {
     let stayed = stay(&mut m.frames, method, marks, limit);
     if stayed >= limit {
-        return Ok(Taken::Steps(stayed));
+        return Ok(stayed);
     }
     let taken = take_marked(
         m, alloc, p, method, marks, natives, lookups, slots, layouts, walker,
     )?;
-    let all = plus(stayed, taken);
+    let all = stayed + taken;
     Ok(all)
 }

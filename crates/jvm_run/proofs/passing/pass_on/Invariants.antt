@@ -1,5 +1,4 @@
 use Rattle.std.proofs.Common.{◌-◌, ◌≤◌}
-use Rattle.jvm_run.specs.declared.taking.Taken.TheVariants as taken
 use Rattle.jvm_step.specs.Below.{lines_of}
 use Rattle.jvm_step.specs.Below.{AreMarkedRight}
 use Rattle.jvm_run.specs.Passing.{Took}
@@ -9,7 +8,7 @@ use Rattle.jvm_run.proofs.passing.pass_on.Given as goal
 abbrev pub invariant-loop-done : goal.invariant-loop-done
 invariant-loop-done l = record {
   within : l.done ≤ l.limit;
-  took : Took l.p l.limit l.fn.m l.m (taken.Steps l.done);
+  took : Took l.p l.limit l.fn.m l.m l.done;
   marked : AreMarkedRight l.p l.marks.items (lines_of l.p l.m.world);
   tables : AreTablesOf l.p l.tables;
 }

@@ -1,5 +1,4 @@
 use Rattle.std.proofs.Common.{◌-◌, ◌≤◌}
-use Rattle.jvm_run.specs.declared.taking.Taken.TheVariants as taken
 use Rattle.jvm_run.specs.Passing.{Took}
 use Rattle.jvm_step.specs.Below.{AreLayouts}
 use Rattle.jvm_step.specs.Below.{AreSlots}
@@ -9,7 +8,7 @@ use Rattle.jvm_run.proofs.passing.stay_in_method.Given as goal
 abbrev pub invariant-loop-done : goal.invariant-loop-done
 invariant-loop-done l = record {
   within : l.done ≤ l.limit;
-  took : Took l.p l.limit l.fn.m l.m (taken.Steps l.done);
+  took : Took l.p l.limit l.fn.m l.m l.done;
   lookups : AreLookups l.p l.lookups;
   slots : AreSlots l.p l.slots;
   layouts : AreLayouts l.p l.layouts;

@@ -3,7 +3,7 @@ use Rattle.std.specs.Prelude.{◌^◌}
 use Rattle.jvm_run.specs.Advancing.{IsWithin, StaysMachine, StaysMarked, WentTo}
 use Rattle.jvm_run.specs.declared.advancing.Went.TheVariants as went
 use Rattle.jvm_run.specs.Running.{start_of}
-use Rattle.jvm_run.proofs.Ran.{begins, comes, ended, few, never_stuck}
+use Rattle.jvm_run.proofs.Ran.{begins, ended, few}
 use Rattle.jvm_run.proofs.running.run.Goals as goal
 
 pub advance-requires-clause-few : goal.advance-requires-clause-few
@@ -13,9 +13,16 @@ advance-requires-clause-few c =
     let small : c.args.limit < 2 ^ 64 = omega (arith, c.requires.room) in
     few p c.args.m.now.world.limits c.args.limit c.loop-done.done (start_of p c.args.test.now) c.loop-done.m lt small c.loop-done.invariant.run
 
-pub advance-requires-clause-come : goal.advance-requires-clause-come
-advance-requires-clause-come c =
-    comes c.args.p.now c.args.m.now.world.limits c.args.limit c.loop-done.done c.args.test.now c.loop-done.m c.requires.accepted c.loop-done.invariant.run
+pub advance-requires-clause-running : goal.advance-requires-clause-running
+advance-requires-clause-running c = record {
+  test = c.args.test.now;
+  accepted = c.requires.accepted;
+  q = c.args.m.now.world.limits;
+  limit = c.args.limit;
+  taken = c.loop-done.done;
+  room = omega (arith, c.loop-done.invariant.within);
+  run = c.loop-done.invariant.run;
+}
 
 pub returns-in-Ended-clause-run : goal.returns-in-Ended-clause-run
 returns-in-Ended-clause-run c =
@@ -23,17 +30,6 @@ returns-in-Ended-clause-run c =
     let lt : c.loop-done.done < c.args.limit = omega arith in
     ended p c.args.m.now.world.limits c.args.limit c.loop-done.done (start_of p c.args.test.now) c.loop-done.m c.advance.new.m c.in-Ended.end lt c.loop-done.invariant.run
     (subst (λ r. WentTo p r c.loop-done.m c.advance.new.m) c.in-Ended.is c.in_ok-went.ensures.went)
-
-pub unreachable-in-Stuck : goal.unreachable-in-Stuck
-unreachable-in-Stuck c =
-    let p = c.args.p.now in
-    let q = c.args.m.now.world.limits in
-    let l = c.loop-done in
-    let n = c.in-Stuck._steps in
-    let bound : IsWithin (c.args.limit - l.done) (went.Stuck n) = subst (IsWithin (c.args.limit - l.done)) c.in-Stuck.is c.in_ok-went.ensures.within in
-    let lt : l.done + n < c.args.limit = omega (arith, bound, l.invariant.within) in
-    let last = subst (λ r. WentTo p r l.m c.advance.new.m) c.in-Stuck.is c.in_ok-went.ensures.went q c.args.limit l.done (start_of p c.args.test.now) l.invariant.run lt in
-    never_stuck c.accepted_code_is_never_stuck.ensures p q c.args.limit (l.done + n) c.args.test.now last.0 c.requires.accepted last.1 last.2
 
 pub returns-in-Ended-clause-machine : goal.returns-in-Ended-clause-machine
 returns-in-Ended-clause-machine c =

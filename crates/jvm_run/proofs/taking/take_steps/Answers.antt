@@ -1,6 +1,5 @@
-use Rattle.std.proofs.Common.{◌≤◌, ◌+◌, arith, subst, sym}
-use Rattle.jvm_run.specs.Passing.{Took}
-use Rattle.jvm_run.proofs.Passes.{fits, stayed_is, stayed_runs, took_both, took_stayed}
+use Rattle.std.proofs.Common.{◌≤◌, ◌+◌, arith}
+use Rattle.jvm_run.proofs.Passes.{stayed_is, stayed_running, stayed_runs, took_both, took_stayed}
 use Rattle.jvm_run.proofs.taking.take_steps.Goals as goal
 
 pub take_marked-requires-clause-machine : goal.take_marked-requires-clause-machine
@@ -16,21 +15,21 @@ take_marked-requires-clause-runs c =
 pub take_marked-requires-clause-calm : goal.take_marked-requires-clause-calm
 take_marked-requires-clause-calm c = record { thrown = c.requires.calm.thrown; lives = c.requires.calm.lives }
 
-pub plus-all-requires : goal.plus-all-requires
-plus-all-requires c =
+pub take_marked-requires-clause-running : goal.take_marked-requires-clause-running
+take_marked-requires-clause-running c =
     let lt : c.stay-stayed.result + 1 ≤ c.args.limit = omega arith in
-    fits 1 c.stay-stayed.result c.args.limit c.in_ok-taken.taken c.in_ok-taken.ensures.took.within lt (omega arith)
+    stayed_running c.args.p.now c.args.m.now c.args.method.now c.args.marks.now c.stay-stayed.new.frames c.stay-stayed.result
+    c.requires.machine c.requires.calm c.requires.runs c.stay-stayed.ensures.stays c.args.limit lt c.requires.running
 
 pub returns-clause-took : goal.returns-clause-took
 returns-clause-took c =
     let lt : c.stay-stayed.result + 1 ≤ c.args.limit = omega arith in
-    subst (Took c.args.p.now c.args.limit c.args.m.now c.take_marked.new.m) (sym c.plus-all.ensures)
-    (took_both c.args.p.now c.args.limit c.args.limit 1 c.stay-stayed.result c.args.m.now _ c.take_marked.new.m c.in_ok-taken.taken
+    took_both c.args.p.now c.args.limit c.args.limit 1 c.stay-stayed.result c.in_ok-taken.taken c.args.m.now _ c.take_marked.new.m
     (took_stayed c.args.p.now c.args.m.now c.args.method.now c.args.marks.now c.stay-stayed.new.frames c.stay-stayed.result
-    c.requires.machine c.requires.calm c.requires.runs c.stay-stayed.ensures.stays c.args.limit c.stay-stayed.ensures.limit c.requires.meaning)
-    c.in_ok-taken.ensures.took lt)
+    c.requires.machine c.requires.calm c.requires.runs c.stay-stayed.ensures.stays c.args.limit c.stay-stayed.ensures.limit)
+    c.in_ok-taken.ensures.took lt
 
 pub returns-then-stayed-limit-clause-took : goal.returns-then-stayed-limit-clause-took
 returns-then-stayed-limit-clause-took c =
     took_stayed c.args.p.now c.args.m.now c.args.method.now c.args.marks.now c.stay-stayed.new.frames c.stay-stayed.result
-    c.requires.machine c.requires.calm c.requires.runs c.stay-stayed.ensures.stays c.args.limit c.stay-stayed.ensures.limit c.requires.meaning
+    c.requires.machine c.requires.calm c.requires.runs c.stay-stayed.ensures.stays c.args.limit c.stay-stayed.ensures.limit
