@@ -161,21 +161,21 @@ machine_by p new (step.Ended o) h = h
 
 -- ---- by the turn of the instruction
 
-module _ (p : List Info) (m : Machine) (code : MethodCode) (marks : List Bool) (fs : NumberedFrames) (u : World) (calm : IsCalm m) (runs : RunsReached p code marks m) (running : IsRunning p 1 m) (marked : IsSomeAnd m.frames.frame (HasMark marks)) (are : AreFramesOf p fs) (kept : IsKept p m.world u) where
+module _ (p : List Info) (m : Machine) (code : MethodCode) (marks : List Bool) (fs : NumberedFrames) (u : World) (calm : IsCalm m) (runs : RunsReached p code marks m) (inside : IsRunning p 1 m) (marked : IsSomeAnd m.frames.frame (HasMark marks)) (are : AreFramesOf p fs) (kept : IsKept p m.world u) where
   still_of : (x : Option ℕ) → IsMachineStill p m (record { frames = fs; thrown = x; world = u })
   still_of x = stepped.still p m (record { frames = fs; thrown = x; world = u }) are kept
 
   pub took_goes : Turned p (acting p) turn.Goes m.frames fs m.world u → Took p 1 m (record { frames = fs; thrown = m.thrown; world = u }) 1
   took_goes h =
-      took_one p m (record { frames = fs; thrown = m.thrown; world = u }) (running_means p 1 m running) (answers_goes p m code marks fs u calm runs marked h) (still_of m.thrown)
+      took_one p m (record { frames = fs; thrown = m.thrown; world = u }) (running_means p 1 m inside) (answers_goes p m code marks fs u calm runs marked h) (still_of m.thrown)
 
   pub took_throws : (x : ℕ) → Turned p (acting p) (turn.Throws x) m.frames fs m.world u → Took p 1 m (record { frames = fs; thrown = Some x; world = u }) 1
   took_throws x h =
-      took_one p m (record { frames = fs; thrown = Some x; world = u }) (running_means p 1 m running) (answers_throws p m code marks fs u calm runs marked x h) (still_of (Some x))
+      took_one p m (record { frames = fs; thrown = Some x; world = u }) (running_means p 1 m inside) (answers_throws p m code marks fs u calm runs marked x h) (still_of (Some x))
 
   -- A row applies, for the code is accepted.
   pub has_row : NeverStuck → Turned p (acting p) turn.NoRow m.frames fs m.world u → ⊥
-  has_row law h = coming.never_stuck law p m (running_comes p 1 m running) (has_no_row p m code marks fs u calm runs marked h)
+  has_row law h = coming.never_stuck law p m (running_comes p 1 m inside) (has_no_row p m code marks fs u calm runs marked h)
 
 -- ---- one after the other
 

@@ -76,7 +76,7 @@ fn run(
 }
 
 // Runs a machine that stands at the start of a test, and gives what the run gives.
-#[tactic(auto, using(crate::proofs::Ran::steps_of))]
+#[tactic(auto, using(crate::proofs::Ran::steps_of, crate::proofs::Ran::with_result))]
 fn complete(
     m: &mut Machine,
     alloc: Global,

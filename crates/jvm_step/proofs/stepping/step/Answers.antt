@@ -9,8 +9,8 @@ pub returns-in-Some-clause-step : goal.returns-in-Some-clause-step
 returns-in-Some-clause-step c =
     ended c.args.p.now c.args.m.now c.in-Some.end (subst (TellsEnd c.args.p.now c.args.m.now) c.in-Some.is c.end.ensures.tells)
 
-pub unreachable-in-NoRow : goal.unreachable-in-NoRow
-unreachable-in-NoRow c =
+pub unreachable-requires : goal.unreachable-requires
+unreachable-requires c =
     let p = c.args.p.now in
     let m = c.args.m.now in
     never_stuck c.accepted_code_is_never_stuck.ensures p m c.requires.come
