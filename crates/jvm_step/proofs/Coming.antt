@@ -40,7 +40,7 @@ comes_stuck p q (suc n) k s place e = by_first (step_of p q s) refl
         subst (λ x. IsStuck (then_run x k (λ u. run_from p q (suc n) u (suc k)) s.world).ending) (sym h) more
     by_first (Ended o) h =
         let both : Ended o ≡ Stuck place = sym h ∙ ap (step_of p q) (sym (ended_stays p q (suc n) s o h)) ∙ e in
-        cc
+        absurd cc
     by_first (Stuck other) h = stuck_run p q (suc n) k s other h
 
 pub never_stuck : NeverStuck → (p : List Info) (m : Machine) → HasCome p m → HasNoRow p m → ⊥
