@@ -129,7 +129,7 @@ fn push_run(
     let case = case_of(*out.allocator(), line)?;
     push_test(out, &case.test)?;
     if !fits(*out.allocator(), program, &case.test)? {
-        anyhow::bail!("a call of a script finds no method");
+        anyhow::bail!("a call finds no method: {line}");
     }
     if case.by_record {
         push_case_by_record(program, tables, &case, out)

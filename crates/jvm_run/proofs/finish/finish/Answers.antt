@@ -6,11 +6,11 @@ pub returns : goal.returns
 returns c =
     tells_run c.args.p.now c.args.m.now
     (record {
-      ending = c.args.ending;
+      outcome = c.args.outcome;
       steps = c.args.steps;
       consulted = c.in_ok-consulted.consulted;
       reached = c.in_ok-reached.reached;
     })
-    c.args.ending c.args.steps refl refl (c.in_ok-consulted.ensures ∙ c.names.ensures)
+    c.args.outcome c.args.steps refl refl (c.in_ok-consulted.ensures ∙ c.names.ensures)
     (same_mapped (λ x. (x.0.0, x.1)) c.in_ok-reached.reached c.pairs.result.now c.args.m.now.world.reached c.in_ok-reached.ensures c.pairs.ensures)
     c.requires.world.reached
