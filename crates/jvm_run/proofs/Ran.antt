@@ -127,15 +127,15 @@ comes p q limit i t m accepted h = record {
 -- A machine that is in such a run.
 pub running_on : (p : List Info) (k n more : ℕ) (m new : Machine) → IsRunning p k m → GoesSteps p n m new → n + more ≤ k → IsRunning p more new
 running_on p k n more m new r goes lt =
-    let room = r.room in
+    let had = r.room in
     record {
       test = r.test;
       accepted = r.accepted;
       q = r.q;
       limit = r.limit;
       taken = r.taken + n;
-      room = omega (arith, lt, room);
-      run = goes r.q r.limit r.taken (start_of p r.test) r.run (omega (arith, lt, room));
+      room = omega (arith, lt, had);
+      run = goes r.q r.limit r.taken (start_of p r.test) r.run (omega (arith, lt, had));
     }
 
 pub running_comes : (p : List Info) (k : ℕ) (m : Machine) → IsRunning p k m → HasCome p m
