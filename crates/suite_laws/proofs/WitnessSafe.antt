@@ -294,7 +294,7 @@ class_is n =
     of_each ClassIs (λ m. tt)
     (of_all (λ i. ClassIs i.name (Some (class_of i)))
     (((refl, refl, tt, (tt, (tt, (tt, (tt, (tt, (tt, tt))))))), tt), tt)
-    (((refl, refl, tt, (tt, ((refl, refl), (tt, tt)))), ((refl, refl, tt, (tt, ((refl, refl), (tt, (tt, tt))))), ((refl, refl, tt, (tt, tt)), tt))), tt)
+    (((refl, refl, tt, (tt, ((refl, refl), (tt, tt)))), ((refl, refl, tt, (tt, ((refl, refl), (tt, (tt, (tt, (tt, (tt, (tt, tt))))))))), ((refl, refl, tt, (tt, tt)), ((refl, refl, tt, (tt, tt)), tt)))), tt)
     (((refl, refl, λ h args fits given. tt, tt), tt), tt)
     (tt, (refl, (refl, tt)))
     (λ m. (tt, tt)) (λ m. (tt, tt)) (λ m. (tt, tt))) n

@@ -5,12 +5,14 @@ use Rattle.class_model.specs.declared.attribute.Attr.{Attr, roll-Attr}
 use Rattle.class_model.specs.declared.attribute.Body.{Body}
 use Rattle.class_model.specs.declared.attribute.Body.TheVariants as content
 use Rattle.class_model.specs.declared.attribute.Code.{roll-Code}
+use Rattle.class_model.specs.declared.attribute.Row.{Row}
 use Rattle.class_model.specs.declared.class.Class.{Class}
 use Rattle.class_model.specs.declared.class.Member.{Member}
 use Rattle.class_model.specs.declared.constant.Const.{Const}
 use Rattle.class_model.specs.declared.constant.Const.TheVariants as const
 use Rattle.class_model.specs.declared.edit.NewInsn.TheVariants.{Plain}
 use Rattle.class_model.specs.declared.frame.Shape.TheVariants as shape
+use Rattle.class_model.specs.declared.frame.VItem.TheVariants as item
 use Rattle.class_model.specs.declared.instruction.Insn.{Insn}
 use Rattle.class_model.specs.declared.instruction.Arg.TheVariants as arg
 use Rattle.class_model.specs.declared.kind.Kind.TheVariants as kind
@@ -27,7 +29,10 @@ use Rattle.machine_rules.specs.Worked.{roomy}
 use Rattle.type_rules.specs.References.{throwable_name}
 use Rattle.machine_laws.specs.Consulted.{IsLibraryWhole}
 use Rattle.machine_laws.specs.FrameLaw.{HasEnded}
-use Rattle.class_link.specs.declared.frames.FrameShape.TheVariants.{SameLocals}
+use Rattle.class_link.specs.declared.frames.FrameShape.TheVariants.{SameLocals, OneItem}
+use Rattle.class_link.specs.declared.frames.StatedFrame.{StatedFrame}
+use Rattle.class_link.specs.declared.frames.VType.TheVariants as vtype
+use Rattle.class_link.specs.declared.linked.LinkedRow.{LinkedRow}
 use Rattle.class_link.specs.declared.instruction.Instruction.{Instruction}
 use Rattle.class_link.specs.declared.instruction.Instruction.TheVariants as code
 use Rattle.class_link.specs.declared.linked.Entry.TheVariants as entry
@@ -69,15 +74,18 @@ naming op index = record { op = op; wide = false; arg = arg.Pool index }
 abbrev attr : ℕ → Body → Attr
 attr name b = roll-Attr (record { name = name; body = b })
 
--- A method with Code of one word of stack and one local, by the indices of its name, its descriptor
--- and the word Code.
-abbrev coded : ℕ → ℕ → ℕ → ℕ → ℕ → List Insn → List Attr → Member
-coded flags name desc word stack insns tables = record {
+-- A method with Code of one local, by the indices of its name, its descriptor and the word Code.
+abbrev catching : ℕ → ℕ → ℕ → ℕ → ℕ → List Insn → List Row → List Attr → Member
+catching flags name desc word stack insns rows tables = record {
   flags = flags;
   name = name;
   desc = desc;
-  attrs = attr word (content.Code (roll-Code (record { max_stack = stack; max_locals = 1; insns = insns; rows = []; attrs = tables }))) ∷ [];
+  attrs = attr word (content.Code (roll-Code (record { max_stack = stack; max_locals = 1; insns = insns; rows = rows; attrs = tables }))) ∷ [];
 }
+
+-- The same without exception rows.
+abbrev coded : ℕ → ℕ → ℕ → ℕ → ℕ → List Insn → List Attr → Member
+coded flags name desc word stack insns tables = catching flags name desc word stack insns [] tables
 
 -- A public class of Object: the indices 2 and 4 name the two.
 abbrev public_class : List Const → List Member → Class
@@ -103,46 +111,62 @@ abbrev t_pool : List Const
 t_pool =
     const.Utf8 (codes "T") ∷ const.Class 1 ∷ const.Utf8 (codes "java/lang/Object") ∷ const.Class 3 ∷ const.Utf8 (codes "<init>") ∷ const.Utf8 (codes "()V") ∷ const.Pair 5 6 ∷ const.Method 4 7
     ∷ const.Utf8 (codes "A") ∷ const.Class 9 ∷ const.Utf8 (codes "f") ∷ const.Utf8 (codes "(I)Z") ∷ const.Pair 11 12 ∷ const.Method 10 13 ∷ const.Utf8 (codes "Code")
-    ∷ const.Utf8 (codes "neg") ∷ const.Utf8 (codes "idle") ∷ []
+    ∷ const.Utf8 (codes "neg") ∷ const.Utf8 (codes "idle") ∷ const.Utf8 (codes "<clinit>") ∷ const.Utf8 (codes "StackMapTable") ∷ const.Utf8 (codes "java/lang/Throwable")
+    ∷ const.Class 20 ∷ []
 
--- T, whose `neg` calls `f` at -1 and whose `idle` does nothing.
+-- T, whose `neg` calls `f` at -1 and makes an object, with a handler over both, and whose `idle`
+-- does nothing. It has an initializer.
 abbrev pub t_class : Class
 t_class =
     public_class t_pool
     (coded 1 5 6 15 1 (bare 0x2a ∷ naming 0xb7 8 ∷ bare 0xb1 ∷ []) []
-    ∷ coded 1 16 6 15 1 (bare 0x02 ∷ naming 0xb8 14 ∷ bare 0x57 ∷ bare 0xb1 ∷ []) []
+    ∷ catching 1 16 6 15 1
+    (bare 0x02 ∷ naming 0xb8 14 ∷ bare 0x57 ∷ naming 0xbb 2 ∷ bare 0x57 ∷ bare 0xb1 ∷ bare 0x57 ∷ bare 0xb1 ∷ [])
+    (record { start = 0; end = 6; handler = 6; catch = 0 } ∷ [])
+    (attr 19 (content.Frames (record { at = 6; shape = shape.One false (item.Object 21) } ∷ [])) ∷ [])
     ∷ coded 1 17 6 15 0 (bare 0xb1 ∷ []) []
+    ∷ coded 8 18 6 15 0 (bare 0xb1 ∷ []) []
     ∷ [])
 
 -- The bytes of T.
 abbrev pub t_file : List ℕ
 t_file =
-    0xca ∷ 0xfe ∷ 0xba ∷ 0xbe ∷ 0x00 ∷ 0x00 ∷ 0x00 ∷ 0x34 ∷ 0x00 ∷ 0x12 ∷ 0x01 ∷ 0x00 ∷ 0x01 ∷ 0x54 ∷ 0x07 ∷ 0x00 ∷
+    0xca ∷ 0xfe ∷ 0xba ∷ 0xbe ∷ 0x00 ∷ 0x00 ∷ 0x00 ∷ 0x34 ∷ 0x00 ∷ 0x16 ∷ 0x01 ∷ 0x00 ∷ 0x01 ∷ 0x54 ∷ 0x07 ∷ 0x00 ∷
     0x01 ∷ 0x01 ∷ 0x00 ∷ 0x10 ∷ 0x6a ∷ 0x61 ∷ 0x76 ∷ 0x61 ∷ 0x2f ∷ 0x6c ∷ 0x61 ∷ 0x6e ∷ 0x67 ∷ 0x2f ∷ 0x4f ∷ 0x62 ∷
     0x6a ∷ 0x65 ∷ 0x63 ∷ 0x74 ∷ 0x07 ∷ 0x00 ∷ 0x03 ∷ 0x01 ∷ 0x00 ∷ 0x06 ∷ 0x3c ∷ 0x69 ∷ 0x6e ∷ 0x69 ∷ 0x74 ∷ 0x3e ∷
     0x01 ∷ 0x00 ∷ 0x03 ∷ 0x28 ∷ 0x29 ∷ 0x56 ∷ 0x0c ∷ 0x00 ∷ 0x05 ∷ 0x00 ∷ 0x06 ∷ 0x0a ∷ 0x00 ∷ 0x04 ∷ 0x00 ∷ 0x07 ∷
     0x01 ∷ 0x00 ∷ 0x01 ∷ 0x41 ∷ 0x07 ∷ 0x00 ∷ 0x09 ∷ 0x01 ∷ 0x00 ∷ 0x01 ∷ 0x66 ∷ 0x01 ∷ 0x00 ∷ 0x04 ∷ 0x28 ∷ 0x49 ∷
     0x29 ∷ 0x5a ∷ 0x0c ∷ 0x00 ∷ 0x0b ∷ 0x00 ∷ 0x0c ∷ 0x0a ∷ 0x00 ∷ 0x0a ∷ 0x00 ∷ 0x0d ∷ 0x01 ∷ 0x00 ∷ 0x04 ∷ 0x43 ∷
     0x6f ∷ 0x64 ∷ 0x65 ∷ 0x01 ∷ 0x00 ∷ 0x03 ∷ 0x6e ∷ 0x65 ∷ 0x67 ∷ 0x01 ∷ 0x00 ∷ 0x04 ∷ 0x69 ∷ 0x64 ∷ 0x6c ∷ 0x65 ∷
-    0x00 ∷ 0x21 ∷ 0x00 ∷ 0x02 ∷ 0x00 ∷ 0x04 ∷ 0x00 ∷ 0x00 ∷ 0x00 ∷ 0x00 ∷ 0x00 ∷ 0x03 ∷ 0x00 ∷ 0x01 ∷ 0x00 ∷ 0x05 ∷
-    0x00 ∷ 0x06 ∷ 0x00 ∷ 0x01 ∷ 0x00 ∷ 0x0f ∷ 0x00 ∷ 0x00 ∷ 0x00 ∷ 0x11 ∷ 0x00 ∷ 0x01 ∷ 0x00 ∷ 0x01 ∷ 0x00 ∷ 0x00 ∷
-    0x00 ∷ 0x05 ∷ 0x2a ∷ 0xb7 ∷ 0x00 ∷ 0x08 ∷ 0xb1 ∷ 0x00 ∷ 0x00 ∷ 0x00 ∷ 0x00 ∷ 0x00 ∷ 0x01 ∷ 0x00 ∷ 0x10 ∷ 0x00 ∷
-    0x06 ∷ 0x00 ∷ 0x01 ∷ 0x00 ∷ 0x0f ∷ 0x00 ∷ 0x00 ∷ 0x00 ∷ 0x12 ∷ 0x00 ∷ 0x01 ∷ 0x00 ∷ 0x01 ∷ 0x00 ∷ 0x00 ∷ 0x00 ∷
-    0x06 ∷ 0x02 ∷ 0xb8 ∷ 0x00 ∷ 0x0e ∷ 0x57 ∷ 0xb1 ∷ 0x00 ∷ 0x00 ∷ 0x00 ∷ 0x00 ∷ 0x00 ∷ 0x01 ∷ 0x00 ∷ 0x11 ∷ 0x00 ∷
-    0x06 ∷ 0x00 ∷ 0x01 ∷ 0x00 ∷ 0x0f ∷ 0x00 ∷ 0x00 ∷ 0x00 ∷ 0x0d ∷ 0x00 ∷ 0x00 ∷ 0x00 ∷ 0x01 ∷ 0x00 ∷ 0x00 ∷ 0x00 ∷
-    0x01 ∷ 0xb1 ∷ 0x00 ∷ 0x00 ∷ 0x00 ∷ 0x00 ∷ 0x00 ∷ 0x00 ∷ []
+    0x01 ∷ 0x00 ∷ 0x08 ∷ 0x3c ∷ 0x63 ∷ 0x6c ∷ 0x69 ∷ 0x6e ∷ 0x69 ∷ 0x74 ∷ 0x3e ∷ 0x01 ∷ 0x00 ∷ 0x0d ∷ 0x53 ∷ 0x74 ∷
+    0x61 ∷ 0x63 ∷ 0x6b ∷ 0x4d ∷ 0x61 ∷ 0x70 ∷ 0x54 ∷ 0x61 ∷ 0x62 ∷ 0x6c ∷ 0x65 ∷ 0x01 ∷ 0x00 ∷ 0x13 ∷ 0x6a ∷ 0x61 ∷
+    0x76 ∷ 0x61 ∷ 0x2f ∷ 0x6c ∷ 0x61 ∷ 0x6e ∷ 0x67 ∷ 0x2f ∷ 0x54 ∷ 0x68 ∷ 0x72 ∷ 0x6f ∷ 0x77 ∷ 0x61 ∷ 0x62 ∷ 0x6c ∷
+    0x65 ∷ 0x07 ∷ 0x00 ∷ 0x14 ∷ 0x00 ∷ 0x21 ∷ 0x00 ∷ 0x02 ∷ 0x00 ∷ 0x04 ∷ 0x00 ∷ 0x00 ∷ 0x00 ∷ 0x00 ∷ 0x00 ∷ 0x04 ∷
+    0x00 ∷ 0x01 ∷ 0x00 ∷ 0x05 ∷ 0x00 ∷ 0x06 ∷ 0x00 ∷ 0x01 ∷ 0x00 ∷ 0x0f ∷ 0x00 ∷ 0x00 ∷ 0x00 ∷ 0x11 ∷ 0x00 ∷ 0x01 ∷
+    0x00 ∷ 0x01 ∷ 0x00 ∷ 0x00 ∷ 0x00 ∷ 0x05 ∷ 0x2a ∷ 0xb7 ∷ 0x00 ∷ 0x08 ∷ 0xb1 ∷ 0x00 ∷ 0x00 ∷ 0x00 ∷ 0x00 ∷ 0x00 ∷
+    0x01 ∷ 0x00 ∷ 0x10 ∷ 0x00 ∷ 0x06 ∷ 0x00 ∷ 0x01 ∷ 0x00 ∷ 0x0f ∷ 0x00 ∷ 0x00 ∷ 0x00 ∷ 0x2c ∷ 0x00 ∷ 0x01 ∷ 0x00 ∷
+    0x01 ∷ 0x00 ∷ 0x00 ∷ 0x00 ∷ 0x0c ∷ 0x02 ∷ 0xb8 ∷ 0x00 ∷ 0x0e ∷ 0x57 ∷ 0xbb ∷ 0x00 ∷ 0x02 ∷ 0x57 ∷ 0xb1 ∷ 0x57 ∷
+    0xb1 ∷ 0x00 ∷ 0x01 ∷ 0x00 ∷ 0x00 ∷ 0x00 ∷ 0x0a ∷ 0x00 ∷ 0x0a ∷ 0x00 ∷ 0x00 ∷ 0x00 ∷ 0x01 ∷ 0x00 ∷ 0x13 ∷ 0x00 ∷
+    0x00 ∷ 0x00 ∷ 0x06 ∷ 0x00 ∷ 0x01 ∷ 0x4a ∷ 0x07 ∷ 0x00 ∷ 0x15 ∷ 0x00 ∷ 0x01 ∷ 0x00 ∷ 0x11 ∷ 0x00 ∷ 0x06 ∷ 0x00 ∷
+    0x01 ∷ 0x00 ∷ 0x0f ∷ 0x00 ∷ 0x00 ∷ 0x00 ∷ 0x0d ∷ 0x00 ∷ 0x00 ∷ 0x00 ∷ 0x01 ∷ 0x00 ∷ 0x00 ∷ 0x00 ∷ 0x01 ∷ 0xb1 ∷
+    0x00 ∷ 0x00 ∷ 0x00 ∷ 0x00 ∷ 0x00 ∷ 0x08 ∷ 0x00 ∷ 0x12 ∷ 0x00 ∷ 0x06 ∷ 0x00 ∷ 0x01 ∷ 0x00 ∷ 0x0f ∷ 0x00 ∷ 0x00 ∷
+    0x00 ∷ 0x0d ∷ 0x00 ∷ 0x00 ∷ 0x00 ∷ 0x01 ∷ 0x00 ∷ 0x00 ∷ 0x00 ∷ 0x01 ∷ 0xb1 ∷ 0x00 ∷ 0x00 ∷ 0x00 ∷ 0x00 ∷ 0x00 ∷
+    0x00 ∷ []
 
 -- ---- what they mean
 
-abbrev plain_method : Name → ℕ → List Instruction → LinkedMethod
-plain_method name stack instructions = record {
-  flags = 1;
+abbrev catching_method : ℕ → Name → ℕ → List Instruction → List LinkedRow → List StatedFrame → LinkedMethod
+catching_method flags name stack instructions rows frames = record {
+  flags = flags;
   name = name;
   desc = plain_descriptor;
   args = [];
   result = None;
-  body = linked_body.Code (record { max_stack = stack; max_locals = 1; instructions = instructions; switches = []; rows = []; lines = []; frames = [] });
+  body = linked_body.Code (record { max_stack = stack; max_locals = 1; instructions = instructions; switches = []; rows = rows; lines = []; frames = frames });
 }
+
+abbrev plain_method : ℕ → Name → ℕ → List Instruction → LinkedMethod
+plain_method flags name stack instructions = catching_method flags name stack instructions [] []
 
 abbrev a_linked : LinkedClass
 a_linked = record {
@@ -182,16 +206,20 @@ t_linked = record {
   interfaces = [];
   fields = [];
   methods =
-      plain_method instance_initializer 1 (code.ReferenceLoad 0 ∷ code.InvokeSpecial 8 ∷ code.PlainReturn ∷ [])
-      ∷ plain_method (codes "neg") 1 (code.IntConstant (negsuc 0) ∷ code.InvokeStatic 14 ∷ code.Pop ∷ code.PlainReturn ∷ [])
-      ∷ plain_method (codes "idle") 0 (code.PlainReturn ∷ [])
+      plain_method 1 instance_initializer 1 (code.ReferenceLoad 0 ∷ code.InvokeSpecial 8 ∷ code.PlainReturn ∷ [])
+      ∷ catching_method 1 (codes "neg") 1
+      (code.IntConstant (negsuc 0) ∷ code.InvokeStatic 14 ∷ code.Pop ∷ code.New 2 ∷ code.Pop ∷ code.PlainReturn ∷ code.Pop ∷ code.PlainReturn ∷ [])
+      (record { start = 0; end = 6; handler = 6; catch = None } ∷ [])
+      (record { at = 6; shape = OneItem (vtype.Obj throwable_name) } ∷ [])
+      ∷ plain_method 1 (codes "idle") 0 (code.PlainReturn ∷ [])
+      ∷ plain_method 8 (codes "<clinit>") 0 (code.PlainReturn ∷ [])
       ∷ [];
   entries =
       entry.Other ∷ entry.Other ∷ entry.Class (codes "T") ∷ entry.Other ∷ entry.Class object_name ∷ entry.Other ∷ entry.Other ∷ entry.Other
       ∷ entry.Method (record { class = object_name; name = instance_initializer; desc = plain_descriptor; args = []; result = None; interface = false })
       ∷ entry.Other ∷ entry.Class (codes "A") ∷ entry.Other ∷ entry.Other ∷ entry.Other
       ∷ entry.Method (record { class = codes "A"; name = codes "f"; desc = codes "(I)Z"; args = kind.Int ∷ []; result = Some kind.Boolean; interface = false })
-      ∷ entry.Other ∷ entry.Other ∷ entry.Other ∷ [];
+      ∷ entry.Other ∷ entry.Other ∷ entry.Other ∷ entry.Other ∷ entry.Other ∷ entry.Other ∷ entry.Class throwable_name ∷ [];
 }
 
 -- ---- the program

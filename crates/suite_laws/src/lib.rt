@@ -7,10 +7,11 @@ mod needed_tests;
 mod script_laws;
 
 pub use mutants::{
-    int_jumps_are_exchanged, int_jumps_go_on, listed_are_mutated, mutant_laws_are_of_use,
-    mutants_are_covered_alike, mutants_are_edits, mutants_are_reached_alike,
-    safe_programs_are_accepted, selected_tests_always_suffice, selected_tests_suffice,
-    unreached_mutants_run_alike, viable_mutants_are_accepted, viable_mutants_are_never_stuck,
+    accepted_programs_are_there, int_jumps_are_exchanged, int_jumps_go_on, listed_are_mutated,
+    mutant_laws_are_of_use, mutants_are_covered_alike, mutants_are_edits,
+    mutants_are_reached_alike, safe_programs_are_accepted, selected_tests_always_suffice,
+    selected_tests_suffice, unreached_mutants_run_alike, viable_mutants_are_accepted,
+    viable_mutants_are_never_stuck,
 };
 pub use needed_tests::{covering_tests_are_needed, found_tests_fit, suites_are_safe};
 pub use script_laws::{found_in_programs_fit, found_scripts_fit, programs_have_files};

@@ -7,7 +7,10 @@ ghost use Rattle.suite_laws.specs.Edited.{ListedAreMutated, MutantsAreEdits, Int
 ghost use Rattle.suite_laws.specs.Covered.{UnreachedIsAlike, ReachingIsAlike, CoveringIsAlike, SelectedSuffice};
 ghost use Rattle.suite_laws.specs.Accepted.{SafeAreAccepted, ViableAreAccepted};
 ghost use Rattle.suite_laws.specs.Accepted.{ViableAreNeverStuck, SelectedAlwaysSuffice};
-ghost use Rattle.suite_laws.specs.Witness.{PremisesAreMet};
+ghost use Rattle.suite_laws.specs.Witness.{PremisesAreMet, neg_test, sample_mutated, sample_program};
+ghost use Rattle.class_table.specs.Table.{look};
+ghost use Rattle.jvm_world.specs.View.{test_of};
+ghost use Rattle.suite_laws.specs.Below.{IsAcceptedFor};
 
 use class_reader::files_are_read_as_spelled;
 use class_writer::what_is_spelled_is_written;
@@ -136,4 +139,16 @@ pub fn mutant_laws_are_of_use()
     what_is_spelled_is_written();
     mutants_fit();
     first_faults_are_found();
+}
+
+/// That program and the one of its mutant are accepted as those ask who run tests on them, for the
+/// test that reaches the mutant's line: it calls a static method and makes objects, with a handler
+/// over both, of a class that has an initializer; and it calls native methods of the library.
+pub fn accepted_programs_are_there()
+    ensures original { IsAcceptedFor (look sample_program) (test_of neg_test) }
+    ensures mutated { IsAcceptedFor sample_mutated (test_of neg_test) }
+{
+    mutant_laws_are_of_use();
+    safe_programs_are_accepted();
+    viable_mutants_are_accepted();
 }
