@@ -1,5 +1,5 @@
 -- How a job may end, and what the meter tells then (this project's own).
-use Rattle.std.specs.Prelude.{◌≡◌, ◌<◌, ◌≤◌, ◌+◌, ◌*◌, ◌^◌, ◌⊎◌, ℕ, Bool, List, [], length, max}
+use Rattle.std.specs.Prelude.{◌≡◌, ◌<◌, ◌≤◌, ◌+◌, ◌*◌, ◌^◌, ◌⊎◌, ℕ, Bool, List, [], ◌∷◌, length, max}
 use Rattle.std.specs.Prelude.{sum_by, All, Contains, is_some, if◌then◌else◌, Result, Ok, Err}
 use Rattle.class_link.specs.declared.loaded.Loaded.{Loaded}
 use Rattle.class_link.specs.Info.{Info}
@@ -84,33 +84,41 @@ AreTooMany h ts =
 abbrev pub CannotBeKept : OldRecords → List (Tried RunRecord) → Type 0
 CannotBeKept old ts = HasUnfit (knowns ts) ⊎ AreTooMany (numbered_in old) ts
 
+-- The records of these runs that were made here: old records lack them.
+abbrev pub made_among : List (Tried RunRecord) → List RunRecord
+made_among [] = []
+made_among (t ∷ ts) = if is_some t.found then made_among ts else t.made ∷ made_among ts
+
 -- ---- how it ends
 
--- The answer is this one, and can be written.
-pub record IsDone (x : JobAnswer) (reused : ℕ) (done : JobDone) : Type 0 where
+-- The answer is this one, and can be written; these records were made for it.
+pub record IsDone (x : JobAnswer) (reused : ℕ) (made : List RunRecord) (done : JobDone)
+    : Type 0 where
   pub verdicts : done.verdicts ≡ x.verdicts
   pub records : done.history.records ≡ x.records
   pub reused_is : done.history.reused ≡ reused
   pub writable : AreWritable x.records
+  pub made_are : done.made ≡ made
 
 -- A job that has this answer, where so many of the records stand for old ones; it is told that they
 -- can't be kept where that is so.
 abbrev pub EndsAs :
-    Result JobAnswer JobRefusal → ℕ → Type 0 → Result JobDone JobFault → Type 0
-EndsAs (Ok x) reused unkept (Ok done) = IsDone x reused done
-EndsAs (Ok x) reused unkept (Err (fault.Refused refusal)) = ⊥
-EndsAs (Ok x) reused unkept (Err fault.Unwritable) = unkept
-EndsAs (Ok x) reused unkept (Err fault.Memory) = Unit {0}
-EndsAs (Err refusal) reused unkept (Ok done) = ⊥
-EndsAs (Err refusal) reused unkept (Err (fault.Refused other)) = other ≡ refusal
-EndsAs (Err refusal) reused unkept (Err fault.Unwritable) = ⊥
-EndsAs (Err refusal) reused unkept (Err fault.Memory) = Unit {0}
+    Result JobAnswer JobRefusal → ℕ → List RunRecord → Type 0 → Result JobDone JobFault → Type 0
+EndsAs (Ok x) reused made unkept (Ok done) = IsDone x reused made done
+EndsAs (Ok x) reused made unkept (Err (fault.Refused refusal)) = ⊥
+EndsAs (Ok x) reused made unkept (Err fault.Unwritable) = unkept
+EndsAs (Ok x) reused made unkept (Err fault.Memory) = Unit {0}
+EndsAs (Err refusal) reused made unkept (Ok done) = ⊥
+EndsAs (Err refusal) reused made unkept (Err (fault.Refused other)) = other ≡ refusal
+EndsAs (Err refusal) reused made unkept (Err fault.Unwritable) = ⊥
+EndsAs (Err refusal) reused made unkept (Err fault.Memory) = Unit {0}
 
 -- Such a job of a suite.
 abbrev pub EndsOf :
     Allowed → Suite → OldRecords → Bool → Result JobDone JobFault → Type 0
 EndsOf a s old all result =
     EndsAs (job_answer a s (records_in old) all) (job_reused a s (records_in old) all)
+    (made_among (need says all (job_runs a s (records_in old))))
     (CannotBeKept old (need says all (job_runs a s (records_in old)))) result
 
 abbrev pub JobEnds : List Info → SuiteJob → OldRecords → Result JobDone JobFault → Type 0

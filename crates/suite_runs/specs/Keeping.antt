@@ -1,5 +1,5 @@
 -- What is known of runs, as new records take it (this project's own).
-use Rattle.std.specs.Prelude.{◌≡◌, ◌<◌, ◌≤◌, ◌+◌, ◌++◌, ◌^◌, ◌⊎◌, ℕ, Bool, true, false, List, map}
+use Rattle.std.specs.Prelude.{◌≡◌, ◌<◌, ◌≤◌, ◌+◌, ◌++◌, ◌^◌, ◌⊎◌, ℕ, Bool, true, false, List, [], ◌∷◌, map}
 use Rattle.std.specs.Prelude.{length, max, sum_by, All, if◌then◌else◌, Result, Ok, Err}
 use Rattle.class_model.specs.declared.memory.Memory.{Memory}
 use Rattle.record_rules.specs.Histories.{Kept}
@@ -68,6 +68,12 @@ PutEnds h ks old new (Err (fault.Refused refusal)) = ⊥
 PutEnds h ks old new (Err fault.Unwritable) = HasUnfit (map known_record ks)
 PutEnds h ks old new (Err fault.Memory) = Unit {0}
 
+-- The records of those of these runs that were made.
+abbrev pub made_in : List KnownRun → List RunRecord
+made_in [] = []
+made_in (run.Made made ∷ ks) = made ∷ made_in ks
+made_in (run.Found found ∷ ks) = made_in ks
+
 -- ---- new records
 
 -- How many names what is known of a run may add to old ones, and classes.
@@ -110,6 +116,7 @@ pub record IsFinished (old : OldRecords) (x : Prepared) (said : CellsSaid) (done
     : Type 0 where
   pub verdicts : done.verdicts ≡ verdicts_from x.viable x.covering 0 said.detections
   pub records : AreKept old (all_known x said) done.history
+  pub made : done.made ≡ made_in (all_known x said)
 
 abbrev pub FinishEnds :
     OldRecords → Prepared → CellsSaid → Result JobDone JobFault → Type 0

@@ -1,23 +1,24 @@
 //! What a job makes of what its cells said.
 
-ghost use Rattle.std.specs.Prelude.{◌≡◌, ◌++◌, [], All, IfOk, length};
+ghost use Rattle.std.specs.Prelude.{◌≡◌, ◌++◌, [], All, IfOk, OnOk, length};
 ghost use Rattle.history_file.specs.Rows.{Numbered};
 ghost use Rattle.new_history.specs.Needed.{IsNeeded};
 ghost use Rattle.suite_workers.specs.Old.{history_in};
 ghost use Rattle.suite_workers.specs.Said.{IsKnownIn};
 ghost use Rattle.suite_runs.specs.Ending.{numbered_in};
-ghost use Rattle.suite_runs.specs.Keeping.{FinishEnds, IsOf, KeepEnds, NewEnds, PutEnds};
+ghost use Rattle.suite_runs.specs.Keeping.{FinishEnds, IsOf, KeepEnds, NewEnds, PutEnds, made_in};
 
 use crate::fault::JobFault;
 use crate::job::JobDone;
 use crate::prepared::Prepared;
 use crate::records::push_needed;
 use crate::verdicts::verdicts_of;
-use class_model::Memory;
+use class_model::{Memory, Seq};
 use history_file::History;
 use new_history::{Needed, NewFault, NewHistory};
 use std::alloc::Global;
 use suite_workers::{CellsSaid, KnownRun, OldRecords};
+use true_records::TrueRecord;
 
 // Adds what is known of runs; refuses a record that doesn't fit the fields of a history.
 fn put_needed<'n>(runs: &'n [KnownRun], all: &mut Vec<Needed<'n>>) -> Result<(), JobFault>
@@ -92,29 +93,63 @@ fn records_of<'a, 'n, 'h>(
     Ok(history)
 }
 
+// Adds the records of those of these runs that were made here.
+fn put_made(runs: Seq<KnownRun>, made: &mut Vec<TrueRecord>) -> Result<(), Memory>
+    ensures { OnOk result (made.new.items ≡ made.old.items ++ made_in runs.entry) }
+{
+    for run in runs.into_vec() {
+        match run {
+            KnownRun::Made(entry) => made.push(entry)?,
+            KnownRun::Found(_) => (),
+        }
+    }
+    Ok(())
+}
+
+// The records of those of all needed runs that were made here.
+fn made_of(
+    alloc: Global,
+    originals: Seq<KnownRun>,
+    others: Seq<KnownRun>,
+) -> Result<Seq<TrueRecord>, Memory>
+    ensures { IfOk result (λ made. made ≡ made_in (originals.entry ++ others.entry)) }
+{
+    let mut made = Vec::new(alloc);
+    put_made(originals, &mut made)?;
+    put_made(others, &mut made)?;
+    Ok(Seq::from_vec(made))
+}
+
 /// The answer of a job.
 pub fn finish<'a, 'h>(
     alloc: Global,
     old: OldRecords<'a, 'h>,
-    ready: &Prepared,
+    ready: Prepared,
     said: CellsSaid,
 ) -> Result<JobDone<'h>, JobFault>
-    requires runs { All (IsKnownIn (history_in old)) ready.now.runs }
+    requires runs { All (IsKnownIn (history_in old)) ready.runs }
     requires records { All (IsKnownIn (history_in old)) said.records }
-    requires viable { length said.detections ≡ length ready.now.viable }
-    requires covering { length said.detections ≡ length ready.now.covering }
-    ensures { FinishEnds old.entry ready.entry.now said.entry result }
+    requires viable { length said.detections ≡ length ready.viable }
+    requires covering { length said.detections ≡ length ready.covering }
+    ensures { FinishEnds old.entry ready.entry said.entry result }
 {
     let CellsSaid {
         detections,
         records,
     } = said;
-    let verdicts = verdicts_of(
-        alloc,
-        ready.viable.as_slice(),
-        ready.covering.as_slice(),
-        detections,
-    )?;
-    let history = records_of(alloc, old, ready.runs.as_slice(), records.as_slice())?;
-    Ok(JobDone { verdicts, history })
+    let Prepared {
+        runs,
+        viable,
+        covering,
+        bounds: _,
+        look_ups: _,
+    } = ready;
+    let verdicts = verdicts_of(alloc, viable.as_slice(), covering.as_slice(), detections)?;
+    let history = records_of(alloc, old, runs.as_slice(), records.as_slice())?;
+    let made = made_of(alloc, runs, records)?;
+    Ok(JobDone {
+        verdicts,
+        history,
+        made,
+    })
 }

@@ -5,6 +5,7 @@ use class_table::Test;
 use machine_rules::Limits;
 use mutator_ops::{Mutant, Verdict};
 use new_history::NewHistory;
+use true_records::TrueRecord;
 
 /// The job of a suite whose program stands beside it: its tests and its mutants; what a run may
 /// take of the heap and in frames, and in steps on the program as it is; whether all detecting tests
@@ -19,9 +20,11 @@ pub struct SuiteJob<'a> {
     pub workers: u64,
 }
 
-/// The answer: the verdict on each mutant, in their order, and the new records.
+/// The answer: the verdict on each mutant, in their order, the new records, and those of the needed
+/// runs that were made here.
 #[derive(Drop)]
 pub struct JobDone<'a> {
     pub verdicts: Seq<Verdict>,
     pub history: NewHistory<'a>,
+    pub made: Seq<TrueRecord>,
 }

@@ -26,7 +26,6 @@ use machine_laws::runs_keep_limits;
 use machine_rules::Limits;
 use mt_edge::Meter;
 use mutator_ops::Mutant;
-use record_rules::RunRecord;
 use std::alloc::Global;
 use std::sync::Wait;
 use std::thread::Threads;
@@ -34,6 +33,7 @@ use suite_workers::{
     KnownRun, LookUps, OldRecords, OriginalSetup, bounds_are_by_name, mutants_are_of,
     ready_may_run, run_originals, viable_by_workers,
 };
+use true_records::TrueRecord;
 use worker_gate::Recorder;
 
 /// What is known of the original runs; which mutants are viable, and which tests cover each; what
@@ -90,7 +90,7 @@ fn original_setup<'c, 'r, 'h>(
 }
 
 // What is known of the original runs. The steps of those that are made are counted in the meter.
-fn original_runs<'a, 'h, W: Threads + Wait + Sync, R: Recorder<RunRecord> + Sync>(
+fn original_runs<'a, 'h, W: Threads + Wait + Sync, R: Recorder<TrueRecord> + Sync>(
     rt: &W,
     alloc: Global,
     program: &Program,
@@ -110,7 +110,7 @@ fn original_runs<'a, 'h, W: Threads + Wait + Sync, R: Recorder<RunRecord> + Sync
 }
 
 // What is known of them where all tests pass.
-fn green_runs<'a, 'h, W: Threads + Wait + Sync, R: Recorder<RunRecord> + Sync>(
+fn green_runs<'a, 'h, W: Threads + Wait + Sync, R: Recorder<TrueRecord> + Sync>(
     rt: &W,
     alloc: Global,
     program: &Program,
@@ -218,7 +218,7 @@ fn readied<'a, 'h, W: Threads + Sync>(
 }
 
 /// What the cells of a job need, or why it is refused.
-pub fn prepare<'a, 'h, W: Threads + Wait + Sync, R: Recorder<RunRecord> + Sync>(
+pub fn prepare<'a, 'h, W: Threads + Wait + Sync, R: Recorder<TrueRecord> + Sync>(
     rt: &W,
     alloc: Global,
     program: &Program,

@@ -5,8 +5,9 @@ ghost use Rattle.history_file.specs.Rows.{Numbered};
 ghost use Rattle.suite_runs.specs.Keeping.{IsKeptAs, IsOf, IsUnfit, PushesKept};
 
 use class_model::Memory;
+use job_journal::KnownRecord;
 use new_history::Needed;
-use suite_workers::{KnownRun, fits_fields};
+use suite_workers::KnownRun;
 
 // For the prover alone.
 fn limit_fits(limit: u64)
@@ -22,8 +23,8 @@ fn needed_of<'n>(run: &'n KnownRun) -> Option<Needed<'n>>
 {
     match run {
         KnownRun::Made(made) => {
-            if fits_fields(made) {
-                Some(Needed::Made(made))
+            if made.is_formed() {
+                Some(Needed::Made(made.get()))
             } else {
                 None
             }

@@ -15,13 +15,13 @@ use machine_laws::runs_keep_limits;
 use machine_rules::Limits;
 use mt_edge::Meter;
 use mutator_ops::Mutant;
-use record_rules::RunRecord;
 use std::alloc::Global;
 use std::sync::Wait;
 use std::thread::Threads;
 use suite_workers::{
     JobSetup, OldRecords, accepted_may_run, cells_are_of_suite, mutants_are_of, run_cells,
 };
+use true_records::TrueRecord;
 use worker_gate::{Gate, Recorder};
 
 // What the workers of a job share.
@@ -48,7 +48,7 @@ fn setup_of<'c, 'r, 'h>(
 /// The job of an accepted suite: its tests are run on the program as it is, and then those that
 /// cover a mutant on it, by workers on threads; runs that old records have are not made. It answers
 /// the verdict on each mutant and the new records, as what is known of all these runs says.
-pub fn run_job<'a, 'h, W: Threads + Wait + Sync, R: Recorder<RunRecord> + Sync, G: Gate + Sync>(
+pub fn run_job<'a, 'h, W: Threads + Wait + Sync, R: Recorder<TrueRecord> + Sync, G: Gate + Sync>(
     rt: &W,
     alloc: Global,
     program: &mut Program,
@@ -72,5 +72,5 @@ pub fn run_job<'a, 'h, W: Threads + Wait + Sync, R: Recorder<RunRecord> + Sync, 
     let ready = prepare(rt, alloc, program, job, old, rec, meter)?;
     let setup = setup_of(job.mutants, job.tests, job.limits, job.all, &ready);
     let said = run_cells(rt, alloc, job.workers, program, &setup, rec, gate, meter)?;
-    finish(alloc, old, &ready, said)
+    finish(alloc, old, ready, said)
 }

@@ -18,10 +18,10 @@ use class_table::{Program, Test};
 use machine_rules::Limits;
 use mt_edge::MeterPart;
 use mutator_ops::State;
-use record_rules::RunRecord;
-use run_records::{Tables, make_record};
+use run_records::Tables;
 use std::alloc::Global;
 use std::marker::Model;
+use true_records::{TrueRecord, make_record};
 use worker_gate::Hands;
 
 /// Hands that run the tests of a suite on its program as it is. They have a copy of the program,
@@ -80,11 +80,12 @@ fn made(
     limits: Limits,
     steps: u64,
     part: &mut MeterPart,
-) -> Result<RunRecord, Memory>
+) -> Result<TrueRecord, Memory>
     requires tables { AreTablesOf program.now tables.old }
     requires runnable { IsRunnable (look program.now) }
     requires small { limits.heap < 2 ^ 31 }
     requires room { part.old + steps < 2 ^ 64 }
+    requires reusable { IsReusable (asked program.now test.now limits steps) }
     requires goes_on { record_of (asked program.now test.now limits steps)
         ≡ Some (made_by (asked program.now test.now limits steps)) }
     ensures made { IfOk result (λ r. r ≡ made_by (asked program.now test.now limits steps)) }
@@ -101,7 +102,7 @@ fn made(
 }
 
 impl<'a, 'r, 'h> Hands for OriginalWorker<'a, 'r, 'h> {
-    type Made = RunRecord;
+    type Made = TrueRecord;
 
     type Found = FoundRun<'r, 'h>;
 
@@ -113,10 +114,10 @@ impl<'a, 'r, 'h> Hands for OriginalWorker<'a, 'r, 'h> {
 
     ghost job = { λ w. w };
 
-    fn made_detects(made: &RunRecord) -> bool
+    fn made_detects(made: &TrueRecord) -> bool
         ensures { result ≡ detects_made run_reading made.now }
     {
-        is_detecting(&made.outcome)
+        is_detecting(&made.get().outcome)
     }
 
     fn found_detects(found: &FoundRun<'r, 'h>) -> bool {
@@ -128,7 +129,7 @@ impl<'a, 'r, 'h> Hands for OriginalWorker<'a, 'r, 'h> {
         Ok(found)
     }
 
-    fn run(&mut self, _mutant: u64, test: u64, part: &mut MeterPart) -> Result<RunRecord, Memory> {
+    fn run(&mut self, _mutant: u64, test: u64, part: &mut MeterPart) -> Result<TrueRecord, Memory> {
         let setup = self.setup;
         let own = test_at(setup.tests, test as usize);
         made(

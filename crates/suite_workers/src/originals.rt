@@ -14,10 +14,10 @@ use class_model::{Memory, Seq};
 use class_table::Program;
 use machine_laws::runs_keep_limits;
 use mt_edge::Meter;
-use record_rules::RunRecord;
 use std::alloc::Global;
 use std::sync::Wait;
 use std::thread::Threads;
+use true_records::TrueRecord;
 use worker_gate::{OpenGate, Recorder, share_cells};
 
 // The numbers of so many tests.
@@ -82,7 +82,7 @@ fn known_by<'a, 'h>(
 /// own; those that old records have are found. It answers what is known of each run, in the order of
 /// the tests; the meter rises by the steps of those that were made, and where memory runs out by at
 /// most these for each worker.
-pub fn run_originals<'a, 'r, 'h, W: Threads + Wait + Sync, R: Recorder<RunRecord> + Sync>(
+pub fn run_originals<'a, 'r, 'h, W: Threads + Wait + Sync, R: Recorder<TrueRecord> + Sync>(
     rt: &W,
     alloc: Global,
     workers: u64,

@@ -12,10 +12,10 @@ use class_model::Memory;
 use class_table::Program;
 use machine_laws::runs_keep_limits;
 use mt_edge::Meter;
-use record_rules::RunRecord;
 use std::alloc::Global;
 use std::sync::Wait;
 use std::thread::Threads;
+use true_records::TrueRecord;
 use worker_gate::{Gate, Recorder, share_cells};
 
 // Hands for so many workers.
@@ -47,7 +47,7 @@ pub fn run_cells<
     'r,
     'h,
     W: Threads + Wait + Sync,
-    R: Recorder<RunRecord> + Sync,
+    R: Recorder<TrueRecord> + Sync,
     G: Gate + Sync,
 >(
     rt: &W,

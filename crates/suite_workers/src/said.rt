@@ -7,15 +7,15 @@ ghost use Rattle.suite_workers.specs.Saying.{AddsNext, SaysAll, SaysOne, known_e
 use crate::old_records::FoundRun;
 use class_model::{Cause, Memory, Outcome, Seq};
 use mutator_ops::State;
-use record_rules::RunRecord;
 use std::alloc::Global;
 use std::collections::VecDeque;
+use true_records::TrueRecord;
 use worker_gate::CellEnd;
 
 /// What is known of a run: the record that was made of it, or the old one that was found.
 #[derive(Drop)]
 pub enum KnownRun<'a, 'h> {
-    Made(RunRecord),
+    Made(TrueRecord),
     Found(FoundRun<'a, 'h>),
 }
 
@@ -28,7 +28,7 @@ pub struct CellsSaid<'a, 'h> {
 }
 
 /// How a cell ended.
-pub type RunEnd<'a, 'h> = CellEnd<RunRecord, FoundRun<'a, 'h>>;
+pub type RunEnd<'a, 'h> = CellEnd<TrueRecord, FoundRun<'a, 'h>>;
 
 // The state that an outcome gives to a mutant.
 fn detected_by(outcome: &Outcome) -> Result<Option<State>, Memory>
@@ -62,7 +62,7 @@ fn state_of(alloc: Global, end: &RunEnd) -> Result<Option<State>, Memory>
     ensures { IfOk result (λ state. state ≡ state_end end.now) }
 {
     match end {
-        CellEnd::Ran(made) => detected_by(&made.outcome),
+        CellEnd::Ran(made) => detected_by(&made.get().outcome),
         CellEnd::Reused(found) => found.state(alloc),
         CellEnd::Skipped(_) => Ok(None),
     }

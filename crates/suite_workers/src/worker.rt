@@ -19,10 +19,11 @@ use mt_edge::MeterPart;
 use mutant_apply::parts_are_of_applied;
 use mutator_ops::State;
 use record_rules::RunRecord;
-use run_records::{Tables, make_record};
+use run_records::Tables;
 use std::alloc::Global;
 use std::marker::Model;
 use suite_jobs::{edited_are_ready, ready_may_run};
+use true_records::{TrueRecord, make_record};
 use type_laws::first_faults_are_found;
 use worker_gate::Hands;
 
@@ -142,7 +143,7 @@ fn run_in(
     mutant: u64,
     test: u64,
     part: &mut MeterPart,
-) -> Result<RunRecord, Memory>
+) -> Result<TrueRecord, Memory>
     requires work { CanWork setup.now stand.old }
     requires cell { IsCellOf (runs_for setup.now stand.old) mutant test }
     requires room { part.old < 2 ^ 63 }
@@ -178,7 +179,7 @@ fn run_in(
 }
 
 impl<'a, 'r, 'h> Hands for Worker<'a, 'r, 'h> {
-    type Made = RunRecord;
+    type Made = TrueRecord;
 
     type Found = FoundRun<'r, 'h>;
 
@@ -190,10 +191,10 @@ impl<'a, 'r, 'h> Hands for Worker<'a, 'r, 'h> {
 
     ghost job = { λ w. w };
 
-    fn made_detects(made: &RunRecord) -> bool
+    fn made_detects(made: &TrueRecord) -> bool
         ensures { result ≡ detects_made run_reading made.now }
     {
-        is_detecting(&made.outcome)
+        is_detecting(&made.get().outcome)
     }
 
     fn found_detects(found: &FoundRun<'r, 'h>) -> bool {
@@ -204,7 +205,7 @@ impl<'a, 'r, 'h> Hands for Worker<'a, 'r, 'h> {
         find_in(self.alloc, &mut self.stand, self.setup, mutant, test)
     }
 
-    fn run(&mut self, mutant: u64, test: u64, part: &mut MeterPart) -> Result<RunRecord, Memory> {
+    fn run(&mut self, mutant: u64, test: u64, part: &mut MeterPart) -> Result<TrueRecord, Memory> {
         run_in(self.alloc, &mut self.stand, self.setup, mutant, test, part)
     }
 }

@@ -1,4 +1,4 @@
-//! What `record` asks of the runs of a suite's tests is met.
+//! What `make_record` asks of the runs of a suite's tests is met.
 
 ghost use Rattle.true_records.specs.Suites.{MutantsMayBeRecorded, OriginalsMayBeRecorded};
 ghost use Rattle.true_records.specs.Suites.{ProgramsHoldTheirFiles};

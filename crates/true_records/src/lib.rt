@@ -2,11 +2,9 @@
 #![tactic(auto)]
 
 mod laws;
-mod recorded;
 mod recording;
 mod true_record;
 
 pub use laws::{mutants_may_be_recorded, originals_may_be_recorded, programs_hold_their_files};
-pub use recorded::TrueRecorded;
-pub use recording::record;
+pub use recording::make_record;
 pub use true_record::TrueRecord;

@@ -1,15 +1,13 @@
 //! A run of a test, and its record as one that is true.
 
 ghost use Rattle.std.specs.Prelude.{◌≡◌, ◌+◌, ◌≤◌, ◌<◌, ◌^◌, IfOk, OnOk};
-ghost use Rattle.record_rules.specs.Records.{run};
+ghost use Rattle.record_rules.specs.Records.{record_of, run};
 ghost use Rattle.class_table.specs.Table.{look};
 ghost use Rattle.run_records.specs.Below.{IsRunnable};
 ghost use Rattle.run_records.specs.Below.{AreTablesOf};
 ghost use Rattle.suite_records.specs.Suites.{IsReusable};
 ghost use Rattle.run_records.specs.Asking.{asked};
-ghost use Rattle.true_records.specs.Recorded.{AreKept, IsTrueRecordedOf, recorded_in};
 
-use crate::recorded::TrueRecorded;
 use crate::true_record::TrueRecord;
 use class_model::Memory;
 use class_records::class_files_are_a_profile;
@@ -17,29 +15,14 @@ use class_table::{Program, Test};
 use machine_rules::Limits;
 use mt_edge::MeterPart;
 use record_writing::fitting_records_are_formed;
-use run_records::{Recorded, Tables};
+use run_records::Tables;
 use std::alloc::Global;
 use suite_records::true_records_change_nothing;
 
-// The same, its record as one that is true.
-fn kept(recorded: Recorded) -> TrueRecorded
-    requires { AreKept recorded }
-    ensures { recorded_in result ≡ recorded }
-{
-    match recorded {
-        Recorded::Run(entry) => {
-            let entry = TrueRecord::new(entry);
-            TrueRecorded::Run(entry)
-        }
-        Recorded::Unwritable => TrueRecorded::Unwritable,
-        Recorded::Stuck { class, method, at } => TrueRecorded::Stuck { class, method, at },
-    }
-}
-
 /// Runs a test on a program of class files, for so many steps at most, and gives the record of the
-/// run, as `record` of `run_records` does. It is true, and has the form of a history. Steps are
-/// counted in the part as by `execute`.
-pub fn record(
+/// run, as `make_record` of `run_records` does. It is true. Steps are counted in the part as by
+/// `execute`.
+pub fn make_record(
     alloc: Global,
     p: &Program,
     tables: &mut Tables,
@@ -47,13 +30,13 @@ pub fn record(
     limits: Limits,
     limit: u64,
     part: &mut MeterPart,
-) -> Result<TrueRecorded, Memory>
+) -> Result<Option<TrueRecord>, Memory>
     requires tables { AreTablesOf p.now tables.old }
     requires runnable { IsRunnable (look p.now) }
     requires small { limits.heap < 2 ^ 31 }
     requires room { part.old + limit < 2 ^ 64 }
     requires reusable { IsReusable (asked p.now test.now limits limit) }
-    ensures entry { IfOk result (IsTrueRecordedOf (asked p.now test.now limits limit)) }
+    ensures made { IfOk result (λ made. made ≡ record_of (asked p.now test.now limits limit)) }
     ensures steps { OnOk result (part.new
         ≡ part.old + (run (asked p.now test.now limits limit)).steps) }
     ensures memory { part.new ≤ part.old + (run (asked p.now test.now limits limit)).steps }
@@ -62,7 +45,12 @@ pub fn record(
     class_files_are_a_profile();
     fitting_records_are_formed();
     true_records_change_nothing();
-    let recorded = run_records::record(alloc, p, tables, test, limits, limit, part)?;
-    let told = kept(recorded);
-    Ok(told)
+    let made = run_records::make_record(alloc, p, tables, test, limits, limit, part)?;
+    match made {
+        Some(entry) => {
+            let entry = TrueRecord::new(entry);
+            Ok(Some(entry))
+        }
+        None => Ok(None),
+    }
 }
