@@ -3,8 +3,8 @@
 #![tactic(auto)]
 
 use class_model::{Bytes, Memory};
-use mt_edge::{HostSink, HostTree, MemKeeper, Meter};
-use mutest_engine::{Status, run};
+use mt_edge::{HostKeeper, HostSink, HostTree, Keeper, MemKeeper, Meter};
+use mutest_engine::{Status, journal_path, run};
 use run_progress::Progress;
 use std::env;
 use std::env::Env;
@@ -45,29 +45,46 @@ fn is_shown(rt: &HostRuntime, words: &Vec<String>) -> bool {
     first.is_some_and(|word| word.as_str() == "run") && rt.stderr().is_terminal()
 }
 
+// The call, on this keeper.
+fn with<K: Keeper + Drop + Send>(
+    rt: &HostRuntime,
+    words: &Vec<String>,
+    tree: &mut HostTree<'_, HostRuntime>,
+    out: &mut HostSink<'_, HostRuntime>,
+    keeper: K,
+    meter: &mut Meter,
+) -> Status {
+    let progress = Progress::new(rt, is_shown(rt, words));
+    let (status, _keeper) = run(rt, rt.alloc(), words, tree, out, &progress, keeper, meter);
+    progress.clear();
+    status
+}
+
+// The same on the real file of the journal where the words name one, and else on none.
+fn with_keeper(
+    rt: &HostRuntime,
+    words: &Vec<String>,
+    tree: &mut HostTree<'_, HostRuntime>,
+    out: &mut HostSink<'_, HostRuntime>,
+    meter: &mut Meter,
+) -> Status {
+    match journal_path(rt.alloc(), words) {
+        Ok(Some(path)) => with(rt, words, tree, out, HostKeeper::new(rt, path), meter),
+        Ok(None) => {
+            let none = MemKeeper::new(Bytes::new(rt.alloc()), Vec::new(rt.alloc()));
+            with(rt, words, tree, out, none, meter)
+        }
+        Err(Memory) => Status::WantOfMemory,
+    }
+}
+
 fn main(rt: HostRuntime) -> ExitCode {
     let _held = (stand_in(&rt), stand_in(&rt), stand_in(&rt));
     let mut tree = HostTree::new(&rt);
     let mut out = HostSink::new(&rt);
     let mut meter = Meter::new();
-    // No command has a journal yet.
-    let keeper = MemKeeper::new(Bytes::new(rt.alloc()), Vec::new(rt.alloc()));
     let status = match words(&rt) {
-        Ok(words) => {
-            let progress = Progress::new(&rt, is_shown(&rt, &words));
-            let (status, _keeper) = run(
-                &rt,
-                rt.alloc(),
-                &words,
-                &mut tree,
-                &mut out,
-                &progress,
-                keeper,
-                &mut meter,
-            );
-            progress.clear();
-            status
-        }
+        Ok(words) => with_keeper(&rt, &words, &mut tree, &mut out, &mut meter),
         Err(Memory) => Status::WantOfMemory,
     };
     ExitCode::from(status.code())

@@ -37,6 +37,11 @@ or_usage (Some command) = without_archive command
 abbrev pub words_of : List (List ℕ) → Result Command Refusal
 words_of words = or_usage (command_of words)
 
+-- The path of the journal, where the words are a command that has one.
+abbrev pub journal_of : Result Command Refusal → Option (List ℕ)
+journal_of (Ok (run_suite options)) = options.journal
+journal_of words = None
+
 -- The numbers of a command's options are within their bounds.
 abbrev pub IsLimited : Found → Type 0
 IsLimited (found.Run options) = AreLimited (as_run_options options)

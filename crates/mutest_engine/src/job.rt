@@ -6,7 +6,7 @@ ghost use Rattle.history_rules.specs.declared.fault.HistoryFault.TheVariants as 
 ghost use Rattle.suite_runs.specs.Below.{JobRefusal as Refused};
 ghost use Rattle.suite_runs.specs.Ending.{MayRunJob};
 ghost use Rattle.suite_runs.specs.declared.fault.JobFault.TheVariants as job_fault;
-ghost use Rattle.mutest_engine.specs.Jobs.{GivesJob, MetersJob, failure_of, long_history, new_history, refusal_of, test_text, text_in, with_left};
+ghost use Rattle.mutest_engine.specs.Jobs.{DoesJob, GivesJob, MetersJob, failure_of, long_history, new_history, refusal_of, test_text, text_in, with_left};
 ghost use Rattle.mutest_engine.specs.Refusals.{IsOfRuns};
 ghost use Rattle.mutest_engine.specs.Steps.{Gives, Refuses};
 ghost use Rattle.mutest_engine.specs.declared.stop.Stop.TheVariants as stop;
@@ -17,7 +17,7 @@ use crate::stop::Stop;
 use class_model::{Bytes, Memory, Outcome, Seq};
 use class_table::{Program, Test};
 use history_rules::HistoryFault;
-use mt_edge::{Gate, Meter, NoJournal};
+use mt_edge::{Gate, Meter, NoJournal, Recorder};
 use mutator_ops::Verdict;
 use new_history::NewHistory;
 use record_rules::PROFILE_NUMBER;
@@ -25,6 +25,7 @@ use std::alloc::Global;
 use std::sync::Wait;
 use std::thread::Threads;
 use suite_runs::{FailedTest, JobDone, JobFault, JobRefusal, OldRecords, SuiteJob, run_job};
+use true_records::TrueRecord;
 
 const CELLS_LIMIT: u64 = 4_194_304;
 
@@ -137,13 +138,17 @@ fn written(alloc: Global, history: NewHistory<'_>) -> Result<Bytes, Stop>
     }
 }
 
-// What a job gives that is done.
-fn made_of(alloc: Global, done: JobDone<'_>) -> Result<JobMade, Stop>
+/// What a job gives that is done.
+pub fn made_of(alloc: Global, done: JobDone<'_>) -> Result<JobMade, Stop>
     requires { AreWritable done.history.records }
     ensures value { Gives (with_left done.entry.verdicts done.entry.history) result }
     ensures refusal { IfErr result (Refuses IsOfRuns) }
 {
-    let JobDone { verdicts, history } = done;
+    let JobDone {
+        verdicts,
+        history,
+        made: _,
+    } = done;
     let reused = history.reused();
     let history = written(alloc, history)?;
     Ok(JobMade {
@@ -153,8 +158,29 @@ fn made_of(alloc: Global, done: JobDone<'_>) -> Result<JobMade, Stop>
     })
 }
 
-/// The job of an accepted suite, with the new history as bytes. The meter rises by the steps of the
-/// runs that old records lack.
+/// The job of an accepted suite. The meter rises by the steps of the runs that old records lack.
+pub fn job_done<'x, 'h, W: Threads + Wait + Sync, R: Recorder<TrueRecord> + Sync, G: Gate + Sync>(
+    rt: &W,
+    alloc: Global,
+    program: &mut Program,
+    job: &SuiteJob<'x>,
+    old: OldRecords<'x, 'h>,
+    rec: &R,
+    gate: &G,
+    meter: &mut Meter,
+) -> Result<JobDone<'h>, Stop>
+    requires { MayRunJob program.old job.now old meter.old }
+    ensures value { DoesJob program.old job.now old.entry result }
+    ensures meter { MetersJob program.old job.now old.entry meter.old meter.new result }
+    ensures refusal { IfErr result (Refuses IsOfRuns) }
+{
+    match run_job(rt, alloc, program, job, old, rec, gate, meter) {
+        Ok(done) => Ok(done),
+        Err(fault) => Err(stop_of(alloc, job.tests, fault)),
+    }
+}
+
+/// The same with the new history as bytes.
 pub fn job_made<'x, 'h, W: Threads + Wait + Sync, G: Gate + Sync>(
     rt: &W,
     alloc: Global,
@@ -169,8 +195,6 @@ pub fn job_made<'x, 'h, W: Threads + Wait + Sync, G: Gate + Sync>(
     ensures meter { MetersJob program.old job.now old.entry meter.old meter.new result }
     ensures refusal { IfErr result (Refuses IsOfRuns) }
 {
-    match run_job(rt, alloc, program, job, old, &NoJournal, gate, meter) {
-        Ok(done) => made_of(alloc, done),
-        Err(fault) => Err(stop_of(alloc, job.tests, fault)),
-    }
+    let done = job_done(rt, alloc, program, job, old, &NoJournal, gate, meter)?;
+    made_of(alloc, done)
 }

@@ -122,8 +122,8 @@ fn spelled_history<'a>(alloc: Global, bytes: &'a [u8]) -> Result<History<'a>, St
     }
 }
 
-// The same, where there are bytes.
-fn records_in<'a>(alloc: Global, bytes: &'a Option<Bytes>) -> Result<History<'a>, Stop>
+/// The same, where there are bytes.
+pub fn records_in<'a>(alloc: Global, bytes: &'a Option<Bytes>) -> Result<History<'a>, Stop>
     ensures value { GivesBy records_of (records_in bytes.entry.now) result }
     ensures form { IfOk result (λ h. All IsFormed (records_of h)) }
 {

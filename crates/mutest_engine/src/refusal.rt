@@ -69,6 +69,8 @@ pub enum Refusal {
     NotGreen { tests: Seq<(Bytes, Outcome)> },
     /// The history is none: the place of its first fault.
     HistoryBad { at: u64 },
+    /// The journal is no beginning of one: the place of its first fault.
+    JournalBad { at: u64 },
     /// A count passes its limit.
     TooMany { limit: Limit, number: u64 },
     /// The text is none of a class: its first line at fault, counted from 1.
@@ -189,6 +191,7 @@ impl Refusal {
             Refusal::BadTest { .. } => 7,
             Refusal::NotGreen { .. } => 8,
             Refusal::HistoryBad { .. } => 9,
+            Refusal::JournalBad { .. } => 9,
             Refusal::TooMany { .. } => 12,
             Refusal::AsmRefused { .. } => 15,
         }
@@ -220,6 +223,11 @@ impl Refusal {
                 let mut text = Bytes::new(alloc);
                 put_number(alloc, &mut text, *at)?;
                 put_named(line, "mutest: HistoryBad ", text.as_slice())
+            }
+            Refusal::JournalBad { at } => {
+                let mut text = Bytes::new(alloc);
+                put_number(alloc, &mut text, *at)?;
+                put_named(line, "mutest: JournalBad ", text.as_slice())
             }
             Refusal::TooMany { limit, number } => {
                 let mut text = Bytes::new(alloc);

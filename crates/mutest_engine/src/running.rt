@@ -7,7 +7,7 @@ ghost use Rattle.mutest_words.specs.Words.{as_run_options, as_run_command};
 ghost use Rattle.mutest_engine.specs.Answers.{writes_of};
 ghost use Rattle.mutest_engine.specs.Decided.{report_answer, results, run_answer, sourced_answer};
 ghost use Rattle.mutest_engine.specs.Ends.{AnswersHeld, HaltStays, Makes, MayAnswer, MayReport, MetersRun};
-ghost use Rattle.mutest_engine.specs.Known.{AnswersTrue, HaltsBefore, IsKnownOf, MetersOfKnown, RefusesKnown, ReportsKnown, ReportsTrueKnown};
+ghost use Rattle.mutest_engine.specs.Known.{AnswersTrue, HaltsBefore, IsJobBy, IsKnownOf, MetersOfKnown, RefusesKnown, ReportsKnown, ReportsTrueKnown};
 ghost use Rattle.mutest_engine.specs.Made.{IsMade};
 ghost use Rattle.mutest_engine.specs.Promises.{GoesByRun, MetersTrue};
 ghost use Rattle.mutest_engine.specs.Refusals.{IsOfRun};
@@ -46,8 +46,12 @@ pub struct KnownJob {
     pub history: Option<Bytes>,
 }
 
-// What is known before the first run, but for what the history says.
-fn read_job<T: Tree>(alloc: Global, tree: &mut T, options: RunOptions<'_>) -> Result<KnownJob, Halt>
+/// What is known before the first run, but for what the history says.
+pub fn read_job<T: Tree>(
+    alloc: Global,
+    tree: &mut T,
+    options: RunOptions<'_>,
+) -> Result<KnownJob, Halt>
     ensures known { IfOk result (IsKnownOf (T.holds tree.old) (as_run_options options.entry)) }
     ensures refused { IfErr result (HaltsBefore (T.holds tree.old) (as_run_options options.entry)) }
     ensures seen { IfErr result (HaltsSeen (as_run_options options.entry)) }
@@ -62,8 +66,8 @@ fn read_job<T: Tree>(alloc: Global, tree: &mut T, options: RunOptions<'_>) -> Re
 
 // ---- the job
 
-// What is reported of the job of tests and mutants.
-fn made_reported(
+/// What is reported of the job of tests and mutants.
+pub fn made_reported(
     alloc: Global,
     files: ReportFiles,
     tests: Seq<Test>,
@@ -87,6 +91,23 @@ fn made_reported(
         input,
         history,
         reused,
+    }
+}
+
+/// The job of these tests and mutants, by the options.
+pub fn job_by<'x>(options: RunOptions<'_>, tests: &'x [Test], mutants: &'x [Mutant]) -> SuiteJob<'x>
+    ensures { IsJobBy (as_run_options options) tests.entry.now mutants.entry.now result }
+{
+    SuiteJob {
+        tests,
+        mutants,
+        limits: Limits {
+            heap: options.heap,
+            depth: options.depth,
+        },
+        steps: u64::from(options.steps),
+        all: options.matrix,
+        workers: u64::from(options.workers),
     }
 }
 
@@ -118,17 +139,7 @@ pub fn known_reported<W: Threads + Wait + Sync, G: Gate + Sync>(
     let mut program = program;
     let index = old_records(alloc, &history)?;
     let files = files_of(alloc, &program, tests.as_slice(), mutants.as_slice())?;
-    let job = SuiteJob {
-        tests: tests.as_slice(),
-        mutants: mutants.as_slice(),
-        limits: Limits {
-            heap: options.heap,
-            depth: options.depth,
-        },
-        steps: u64::from(options.steps),
-        all: options.matrix,
-        workers: u64::from(options.workers),
-    };
+    let job = job_by(options, tests.as_slice(), mutants.as_slice());
     let old = OldRecords::Of(&index);
     let made = job_made(rt, alloc, &mut program, &job, old, gate, meter)?;
     Ok(made_reported(alloc, files, tests, mutants, made))
@@ -183,8 +194,8 @@ fn report_answer<'a>(
     Ok(Answer { writes, text })
 }
 
-// The same with the sources, which are read here.
-fn sourced_answer<'a, T: Tree>(
+/// The same with the sources, which are read here.
+pub fn sourced_answer<'a, T: Tree>(
     alloc: Global,
     tree: &mut T,
     options: RunOptions<'a>,

@@ -16,6 +16,8 @@ pub enum Output {
     File(Product),
     /// The sink of texts.
     Text,
+    /// The journal, which grows.
+    Journal,
 }
 
 impl Output {
@@ -25,6 +27,7 @@ impl Output {
         match self {
             Output::File(product) => product.name(),
             Output::Text => "output",
+            Output::Journal => "journal",
         }
     }
 }

@@ -23,8 +23,10 @@ pub enum Stop {
 #[derive(Drop)]
 pub enum Halt {
     Refused(Refusal),
-    /// So many calls that read the tree failed.
+    /// So many calls that read the tree, or loaded the journal, failed.
     ReadFault { faults: u64 },
+    /// So many calls that write the journal failed.
+    JournalFault { faults: u64 },
     WantOfMemory,
 }
 

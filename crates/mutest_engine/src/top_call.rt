@@ -16,6 +16,7 @@ use crate::answer::{Answer, Product, Write};
 use crate::assembling::class_file_of;
 use crate::files::{read_file, spelled_class};
 use crate::generated::generate_answer;
+use crate::journaled::journaled_answer;
 use crate::running::run_answer;
 use crate::status::{Output, Status};
 use crate::stop::Halt;
@@ -23,7 +24,7 @@ use crate::words::read_words;
 use class_model::{Bytes, Class, Memory};
 use mt_edge::{EdgeFault, Gate, Keeper, Meter, Sink, Tree};
 use mutator_ops::{class_mutants, id_lines};
-use mutest_words::{AsmOptions, Command};
+use mutest_words::{AsmOptions, Command, RunOptions};
 use std::alloc::Global;
 use std::sync::Wait;
 use std::thread::Threads;
@@ -101,33 +102,40 @@ fn asm_answer<'a, T: Tree>(
     written_class(alloc, options.out, bytes)
 }
 
+// The main job, with a journal if one is named.
+fn main_job<'a, W: Threads + Wait + Sync, T: Tree, G: Gate + Sync, K: Keeper + Send>(
+    rt: &W,
+    alloc: Global,
+    tree: &mut T,
+    options: RunOptions<'a>,
+    gate: &G,
+    keeper: K,
+    meter: &mut Meter,
+) -> (Result<Answer<'a>, Halt>, K) {
+    match options.journal {
+        Some(_) => journaled_answer(rt, alloc, tree, options, gate, keeper, meter),
+        None => (run_answer(rt, alloc, tree, options, gate, meter), keeper),
+    }
+}
+
 // What the words ask for.
-#[tactic(auto, using(crate::proofs::Ends::untold_answer))]
-fn answer_to<'a, W: Threads + Wait + Sync, T: Tree, G: Gate + Sync>(
+fn answer_to<'a, W: Threads + Wait + Sync, T: Tree, G: Gate + Sync, K: Keeper + Send>(
     rt: &W,
     alloc: Global,
     words: &'a Vec<String>,
     tree: &mut T,
     gate: &G,
+    keeper: K,
     meter: &mut Meter,
-) -> Result<Answer<'a>, Halt>
-    requires { meter.old < 2 ^ 62 }
-    ensures value { AnswersHeld (T.holds tree.old) (answer_of (texts words.now)) result }
-    ensures scratch { AnswersTruly (T.holds tree.old) (texts words.now) result }
-    ensures untold { AnswersUntold (words_of (texts words.now)) result }
-    ensures meter { MetersWords (T.holds tree.old) meter.old meter.new (texts words.now) result }
-    ensures scratch_meter { MetersTruly (T.holds tree.old) meter.old meter.new (texts words.now)
-        result }
-    ensures seen { GoesByWords (words_of (texts words.now)) meter.old meter.new result }
-    ensures stays { IfErr result (HaltStays meter.old meter.new) }
-    ensures later { meter.old ≤ meter.new }
-    ensures tree { OnlyReads T.holds T.writing T.reading tree.old tree.new result }
-{
-    match read_words(alloc, words)? {
-        Command::List(file) => list_answer(alloc, tree, file),
-        Command::Run(options) => run_answer(rt, alloc, tree, options, gate, meter),
-        Command::Assemble(options) => asm_answer(alloc, tree, options),
-        Command::Generate(options) => generate_answer(rt, alloc, options, gate, meter),
+) -> (Result<Answer<'a>, Halt>, K) {
+    match read_words(alloc, words) {
+        Ok(Command::List(file)) => (list_answer(alloc, tree, file), keeper),
+        Ok(Command::Run(options)) => main_job(rt, alloc, tree, options, gate, keeper, meter),
+        Ok(Command::Assemble(options)) => (asm_answer(alloc, tree, options), keeper),
+        Ok(Command::Generate(options)) => {
+            (generate_answer(rt, alloc, options, gate, meter), keeper)
+        }
+        Err(stop) => (Err(Halt::from(stop)), keeper),
     }
 }
 
@@ -248,6 +256,10 @@ fn halt_status(halt: Halt) -> Status
     match halt {
         Halt::Refused(refusal) => Status::Refused(refusal),
         Halt::ReadFault { faults } => Status::ReadFault { faults },
+        Halt::JournalFault { faults } => Status::WriteFault {
+            which: Output::Journal,
+            faults,
+        },
         Halt::WantOfMemory => Status::WantOfMemory,
     }
 }
@@ -326,7 +338,7 @@ pub fn run<W: Threads + Wait + Sync, T: Tree, S: Sink, G: Gate + Sync, K: Keeper
     // No call is made on the keeper.
     ensures keeper { result.1 ≡ keeper }
 {
-    let answer = answer_to(rt, alloc, words, tree, gate, meter);
+    let (answer, keeper) = answer_to(rt, alloc, words, tree, gate, keeper, meter);
     let status = finish(alloc, tree, out, answer);
     (status, keeper)
 }

@@ -1,13 +1,13 @@
 //! What the words decide alone: the command that they are, or why they are refused.
 
-ghost use Rattle.std.specs.Prelude.{◌≡◌, false, map, string_bytes, IfOk, OnOk, IfErr};
+ghost use Rattle.std.specs.Prelude.{◌≡◌, false, map, option_map, string_bytes, IfOk, OnOk, IfErr};
 ghost use Rattle.mutest_words.specs.Words.{is_archive, as_command, lent_text};
 ghost use Rattle.mutest_engine.specs.Steps.{Gives, GivesBy, Refuses};
-ghost use Rattle.mutest_engine.specs.Words.{IsArchived, IsLimited, no_archive_in, words_of};
+ghost use Rattle.mutest_engine.specs.Words.{IsArchived, IsLimited, journal_of, no_archive_in, words_of};
 
 use crate::refusal::Refusal;
 use crate::stop::Stop;
-use class_model::Bytes;
+use class_model::{Bytes, Memory};
 use mutest_words::{Command, command_of, is_archive, options_are_limited};
 use std::alloc::Global;
 
@@ -50,5 +50,24 @@ pub fn read_words<'a>(alloc: Global, words: &'a Vec<String>) -> Result<Command<'
         Some(Command::List(file)) => Ok(Command::List(file)),
         Some(Command::Assemble(options)) => Ok(Command::Assemble(options)),
         Some(Command::Generate(options)) => Ok(Command::Generate(options)),
+    }
+}
+
+/// The path of the journal, where the words are a command that has one.
+pub fn journal_path(alloc: Global, words: &Vec<String>) -> Result<Option<String>, Memory>
+    ensures { IfOk result (λ path.
+        option_map string_bytes path ≡ journal_of (words_of (map string_bytes words.now.items))) }
+{
+    match read_words(alloc, words) {
+        Ok(Command::Run(options)) => match options.journal {
+            Some(path) => {
+                let path = String::from_str(alloc, path)?;
+                Ok(Some(path))
+            }
+            None => Ok(None),
+        },
+        Ok(_) => Ok(None),
+        Err(Stop::Refused(_)) => Ok(None),
+        Err(Stop::WantOfMemory) => Err(Memory),
     }
 }

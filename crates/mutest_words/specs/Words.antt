@@ -50,7 +50,7 @@ pub data Command : Type 0 where
 
 -- The one place of options that aren't built: they are refused, and none of them has to stand.
 abbrev pub unbuilt : List Text
-unbuilt = codes "journal" ∷ []
+unbuilt = []
 
 -- ---- values
 

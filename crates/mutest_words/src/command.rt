@@ -66,7 +66,7 @@ pub enum Command<'a> {
 }
 
 /// The options that aren't built: they are refused, and none of them has to stand.
-const UNBUILT: [&str; 1] = ["journal"];
+const UNBUILT: [&str; 0] = [];
 
 const RUN_OPTIONS: [&str; 11] = [
     "classes",

@@ -5,3 +5,4 @@ pub mod Rows
 pub mod Keys
 pub mod Left
 pub mod New
+pub mod Joined

@@ -10,10 +10,12 @@ ghost use Rattle.history_file.specs.Rows.{Numbered};
 ghost use Rattle.new_history.specs.declared.new_fault.NewFault.TheVariants as new_fault;
 ghost use Rattle.new_history.specs.Needed.{IsNeeded, kept_by};
 ghost use Rattle.new_history.specs.Numbering.{names_by};
+ghost use Rattle.new_history.specs.Joined.{AreRowsOf};
 ghost use Rattle.new_history.specs.New.{AreFew, ArePartsOf, AreTooMany, IsNewOf};
 
 use crate::decoded::{names_of, texts_of};
 use crate::firsts::{count_old, firsts_of, pick};
+use crate::joined::HistoryNames;
 use crate::name_numbers::NameNumbers;
 use crate::needed::{Needed, room_behind};
 use crate::new_fault::NewFault;
@@ -115,8 +117,8 @@ fn parts_of<'x>(
     })
 }
 
-// The texts of both.
-fn all_texts<'b>(old: Seq<&'b [u8]>, fresh: &'b [Bytes]) -> Result<Seq<&'b [u8]>, Memory>
+/// The texts of both.
+pub fn all_texts<'b>(old: Seq<&'b [u8]>, fresh: &'b [Bytes]) -> Result<Seq<&'b [u8]>, Memory>
     ensures { IfOk result (λ texts.
         map (λ s. s.now) texts ≡ map (λ s. s.now) old.entry ++ fresh.entry.now) }
 {
@@ -127,8 +129,11 @@ fn all_texts<'b>(old: Seq<&'b [u8]>, fresh: &'b [Bytes]) -> Result<Seq<&'b [u8]>
     Ok(texts)
 }
 
-// The classes of both.
-fn all_classes<'b>(old: Seq<&'b [u8]>, fresh: &'b [SharedBytes]) -> Result<Seq<&'b [u8]>, Memory>
+/// The classes of both.
+pub fn all_classes<'b>(
+    old: Seq<&'b [u8]>,
+    fresh: &'b [SharedBytes],
+) -> Result<Seq<&'b [u8]>, Memory>
     ensures { IfOk result (λ classes.
         map (λ s. s.now) classes ≡ map (λ s. s.now) old.entry ++ fresh.entry.now) }
 {
@@ -183,6 +188,22 @@ impl<'a> NewHistory<'a> {
         ensures { result ≡ length self.now.records }
     {
         self.rows.len()
+    }
+
+    /// The names and the classes of the records, and the records by their numbers.
+    pub fn into_rows(self) -> (HistoryNames<'a>, Seq<Row>)
+        ensures { AreRowsOf self.entry.records result.0 result.1 }
+    {
+        let NewHistory {
+            texts,
+            classes,
+            fresh_texts,
+            fresh_classes,
+            rows,
+            reused: _,
+        } = self;
+        let names = HistoryNames::new(texts, classes, fresh_texts, fresh_classes);
+        (names, rows)
     }
 
     /// The one text of the records, of this profile number. It is too long exactly past

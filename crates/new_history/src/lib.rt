@@ -6,6 +6,7 @@ mod class_numbers;
 mod decoded;
 mod firsts;
 mod history;
+mod joined;
 mod keys;
 mod name_numbers;
 mod needed;
@@ -14,5 +15,6 @@ mod numbering;
 mod rows;
 
 pub use history::NewHistory;
+pub use joined::{HistoryNames, join};
 pub use needed::Needed;
 pub use new_fault::NewFault;
