@@ -3,9 +3,10 @@
 #![tactic(auto)]
 
 use class_model::{Bytes, Memory};
-use mt_edge::{HostKeeper, HostSink, HostTree, Keeper, MemKeeper, Meter};
+use mt_edge::{Gate, HostKeeper, HostSink, HostTree, Keeper, MemKeeper, Meter, Sink, Tree};
 use mutest_engine::{Status, journal_path, run};
 use run_progress::Progress;
+use std::alloc::Global;
 use std::env;
 use std::env::Env;
 use std::fs::File;
@@ -13,6 +14,8 @@ use std::io::{ErrorKind, IsTerminal};
 use std::os::fd::AsRawFd;
 use std::process::ExitCode;
 use std::rt::Files;
+use std::sync::Wait;
+use std::thread::Threads;
 
 // The words behind the program's name. Words that are no text count as no words, which no command
 // has.
@@ -45,46 +48,44 @@ fn is_shown(rt: &HostRuntime, words: &Vec<String>) -> bool {
     first.is_some_and(|word| word.as_str() == "run") && rt.stderr().is_terminal()
 }
 
-// The call, on this keeper.
-fn with<K: Keeper + Drop + Send>(
-    rt: &HostRuntime,
+// The top call, whose keeper is let go.
+fn call<W: Threads + Wait + Sync, T: Tree, S: Sink, G: Gate + Sync, K: Keeper + Drop + Send>(
+    rt: &W,
+    alloc: Global,
     words: &Vec<String>,
-    tree: &mut HostTree<'_, HostRuntime>,
-    out: &mut HostSink<'_, HostRuntime>,
+    tree: &mut T,
+    out: &mut S,
+    gate: &G,
     keeper: K,
-    meter: &mut Meter,
 ) -> Status {
-    let progress = Progress::new(rt, is_shown(rt, words));
-    let (status, _keeper) = run(rt, rt.alloc(), words, tree, out, &progress, keeper, meter);
-    progress.clear();
+    let mut meter = Meter::new();
+    let (status, _keeper) = run(rt, alloc, words, tree, out, gate, keeper, &mut meter);
     status
-}
-
-// The same on the real file of the journal where the words name one, and else on none.
-fn with_keeper(
-    rt: &HostRuntime,
-    words: &Vec<String>,
-    tree: &mut HostTree<'_, HostRuntime>,
-    out: &mut HostSink<'_, HostRuntime>,
-    meter: &mut Meter,
-) -> Status {
-    match journal_path(rt.alloc(), words) {
-        Ok(Some(path)) => with(rt, words, tree, out, HostKeeper::new(rt, path), meter),
-        Ok(None) => {
-            let none = MemKeeper::new(Bytes::new(rt.alloc()), Vec::new(rt.alloc()));
-            with(rt, words, tree, out, none, meter)
-        }
-        Err(Memory) => Status::WantOfMemory,
-    }
 }
 
 fn main(rt: HostRuntime) -> ExitCode {
     let _held = (stand_in(&rt), stand_in(&rt), stand_in(&rt));
     let mut tree = HostTree::new(&rt);
     let mut out = HostSink::new(&rt);
-    let mut meter = Meter::new();
+    let alloc = rt.alloc();
     let status = match words(&rt) {
-        Ok(words) => with_keeper(&rt, &words, &mut tree, &mut out, &mut meter),
+        Ok(words) => {
+            let progress = Progress::new(&rt, is_shown(&rt, &words));
+            // The journal's file is opened exactly where the words name one.
+            let status = match journal_path(alloc, &words) {
+                Ok(Some(path)) => {
+                    let keeper = HostKeeper::new(&rt, path);
+                    call(&rt, alloc, &words, &mut tree, &mut out, &progress, keeper)
+                }
+                Ok(None) => {
+                    let none = MemKeeper::new(Bytes::new(alloc), Vec::new(alloc));
+                    call(&rt, alloc, &words, &mut tree, &mut out, &progress, none)
+                }
+                Err(Memory) => Status::WantOfMemory,
+            };
+            progress.clear();
+            status
+        }
         Err(Memory) => Status::WantOfMemory,
     };
     ExitCode::from(status.code())

@@ -3,7 +3,7 @@
 ghost use Rattle.std.specs.Prelude.{◌≡◌, All, IfOk};
 ghost use Rattle.history_file.specs.Rows.{IsNumbered, records_of};
 ghost use Rattle.history_rules.specs.Fitting.{FitsFields};
-ghost use Rattle.new_history.specs.Joined.{joined_records, with_rows};
+ghost use Rattle.new_history.specs.Joined.{AreNeeded, joined_records, with_rows};
 
 use crate::history::{NewHistory, all_classes, all_texts};
 use crate::needed::Needed;
@@ -70,6 +70,27 @@ impl<'a> HistoryNames<'a> {
     }
 }
 
+// All of them, as new records take them.
+fn needed_of<'n>(
+    alloc: Global,
+    rows: &'n [Row],
+    more: &'n [RunRecord],
+) -> Result<Vec<Needed<'n>>, Memory>
+    ensures { IfOk result (λ needed. AreNeeded rows.entry.now more.entry.now needed.items) }
+{
+    let mut needed = Vec::with_capacity(alloc, rows.len())?;
+    for row in rows {
+        needed.push(Needed::Old {
+            row,
+            limit: row.limit,
+        })?;
+    }
+    for entry in more {
+        needed.push(Needed::Made(entry))?;
+    }
+    Ok(needed)
+}
+
 /// The records of a history, and behind them these, equal ones once and at their first place.
 pub fn join<'a>(
     alloc: Global,
@@ -79,15 +100,6 @@ pub fn join<'a>(
     requires { All FitsFields more.now }
     ensures { IfOk result (λ new. new.records ≡ joined_records (records_of old.now) more.now) }
 {
-    let mut needed = Vec::new(alloc);
-    for row in old.rows() {
-        needed.push(Needed::Old {
-            row,
-            limit: row.limit,
-        })?;
-    }
-    for entry in more {
-        needed.push(Needed::Made(entry))?;
-    }
+    let needed = needed_of(alloc, old.rows(), more)?;
     NewHistory::of(alloc, old, needed.as_slice())
 }

@@ -13,7 +13,7 @@ fn steps_of(run: &KnownRun) -> u64
     ensures { result ≡ (known_record run.now).steps }
 {
     match run {
-        KnownRun::Made(made) => made.steps,
+        KnownRun::Made(made) => made.get().steps,
         KnownRun::Found(found) => found.steps(),
     }
 }

@@ -56,7 +56,7 @@ fn outcome_of(alloc: Global, run: &KnownRun) -> Result<Outcome, Memory>
     ensures { IfOk result (λ outcome. outcome ≡ (known_record run.now).outcome) }
 {
     match run {
-        KnownRun::Made(made) => copied(&made.outcome),
+        KnownRun::Made(made) => copied(&made.get().outcome),
         KnownRun::Found(found) => {
             let state = found.state(alloc)?;
             Ok(outcome_by(state))

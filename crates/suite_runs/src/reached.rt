@@ -219,7 +219,7 @@ fn lines_of(
     ensures { IfOk result (λ lines. lines.items ≡ lines_in program.now (known_record run.now)) }
 {
     match run {
-        KnownRun::Made(made) => made_lines(alloc, program, named.nameless, made),
+        KnownRun::Made(made) => made_lines(alloc, program, named.nameless, made.get()),
         KnownRun::Found(found) => found_lines(alloc, named, found),
     }
 }
