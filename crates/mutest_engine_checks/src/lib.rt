@@ -11,6 +11,8 @@ mod generated;
 #[cfg(test)]
 mod history;
 #[cfg(test)]
+mod journaled;
+#[cfg(test)]
 mod limits;
 #[cfg(test)]
 mod listing;
