@@ -13,7 +13,7 @@ use Rattle.mutest_engine.specs.declared.answer.Answer.{Answer}
 use Rattle.mutest_engine.specs.declared.answer.Product.{Product}
 use Rattle.mutest_engine.specs.declared.refusal.Refusal.{Refusal}
 use Rattle.mutest_engine.specs.declared.status.Output.{Output}
-use Rattle.mutest_engine.specs.declared.status.Output.TheVariants.{File, Text}
+use Rattle.mutest_engine.specs.declared.status.Output.TheVariants.{File, Text, Journal}
 use Rattle.mutest_engine.specs.declared.status.Status.{Status}
 use Rattle.mutest_engine.specs.declared.status.Status.TheVariants.{Done, Refused, ReadFault, WriteFault, WantOfMemory}
 use Rattle.mutest_engine.specs.declared.stop.Halt.{Halt}
@@ -45,6 +45,7 @@ product_name kind.Assembled = codes "assembled"
 abbrev pub output_name : Output → List ℕ
 output_name (File made) = product_name made
 output_name Text = codes "output"
+output_name Journal = codes "journal"
 
 -- the line that a status puts
 abbrev pub line_of : Status → List ℕ
@@ -60,6 +61,7 @@ line_of WantOfMemory = []
 abbrev pub status_of : Halt → Status
 status_of (halt.Refused refusal) = Refused refusal
 status_of (halt.ReadFault faults) = ReadFault faults
+status_of (halt.JournalFault faults) = WriteFault Journal faults
 status_of halt.WantOfMemory = WantOfMemory
 
 -- The status of a call of which a file wasn't replaced.
@@ -86,6 +88,7 @@ IsSome (byte ∷ bytes) = Unit {0}
 abbrev pub IsWritten : Answered → Output → Type 0
 IsWritten a (File product) = IsReplaced a.writes product
 IsWritten a Text = IsSome a.text
+IsWritten a Journal = ⊥
 
 -- How the putting of a text may end.
 abbrev pub TextEnds : List ℕ → Status → Type 0
@@ -94,6 +97,7 @@ TextEnds text (Refused refusal) = ⊥
 TextEnds text (ReadFault faults) = ⊥
 TextEnds text (WriteFault (File product) faults) = ⊥
 TextEnds text (WriteFault Text faults) = IsSome text
+TextEnds text (WriteFault Journal faults) = ⊥
 TextEnds text WantOfMemory = Unit {0}
 
 -- How the carrying out of an answer may end.

@@ -18,5 +18,6 @@ pub mod Reported
 pub mod Decided
 pub mod Known
 pub mod Ends
+pub mod Journals
 pub mod Seen
 pub mod Promises

@@ -19,7 +19,7 @@ use Rattle.mutest_engine.specs.declared.refusal.Limit.TheVariants as limit
 use Rattle.suite_runs.specs.Below.{ProgramFault}
 use Rattle.suite_runs.specs.Below.{Duplicate, SuperMissing, SuperCycle, SuperKind, Code}
 use Rattle.mutest_engine.specs.declared.refusal.Refusal.{Refusal}
-use Rattle.mutest_engine.specs.declared.refusal.Refusal.TheVariants.{Usage, NotFound, Archive, BadClass, BadProgram, BadTest, NotGreen, HistoryBad, TooMany, AsmRefused}
+use Rattle.mutest_engine.specs.declared.refusal.Refusal.TheVariants.{Usage, NotFound, Archive, BadClass, BadProgram, BadTest, NotGreen, HistoryBad, JournalBad, TooMany, AsmRefused}
 
 -- ---- the exit status
 
@@ -32,6 +32,7 @@ refusal_number (BadProgram fault) = 6
 refusal_number (BadTest fault) = 7
 refusal_number (NotGreen tests) = 8
 refusal_number (HistoryBad at) = 9
+refusal_number (JournalBad at) = 9
 refusal_number (TooMany what number) = 12
 refusal_number (AsmRefused line) = 15
 
@@ -90,6 +91,7 @@ refusal_line (BadProgram fault) = named_line (codes "mutest: BadProgram") (progr
 refusal_line (BadTest fault) = test_line fault
 refusal_line (NotGreen tests) = not_green_lines tests
 refusal_line (HistoryBad at) = named_line (codes "mutest: HistoryBad ") (decimal at)
+refusal_line (JournalBad at) = named_line (codes "mutest: JournalBad ") (decimal at)
 refusal_line (TooMany what number) =
     named_line (codes "mutest: TooMany ") (count_text (limit_name what) number)
 refusal_line (AsmRefused line) = named_line (codes "mutest: AsmRefused ") (decimal line)
@@ -150,6 +152,7 @@ IsOfSuite (BadProgram fault) = Unit {0}
 IsOfSuite (BadTest fault) = IsTestFault fault
 IsOfSuite (NotGreen tests) = tests ≢ []
 IsOfSuite (HistoryBad at) = ⊥
+IsOfSuite (JournalBad at) = ⊥
 IsOfSuite (TooMany limit.Sources number) = ⊥
 IsOfSuite (TooMany what number) = IsPassed what number
 IsOfSuite (AsmRefused line) = ⊥
@@ -158,6 +161,11 @@ IsOfSuite (AsmRefused line) = ⊥
 abbrev pub IsOfHistory : Option (List ℕ) → Refusal → Type 0
 IsOfHistory (Some path) (HistoryBad at) = at ≤ 536870912
 IsOfHistory path r = ⊥
+
+-- by what a journal keeps, where there is one
+abbrev pub IsOfJournal : Option (List ℕ) → Refusal → Type 0
+IsOfJournal (Some path) (JournalBad at) = Unit {0}
+IsOfJournal path r = ⊥
 
 -- by what a folder of sources holds, where one is named
 abbrev pub IsOfSources : Option (List ℕ) → Refusal → Type 0
@@ -168,7 +176,9 @@ IsOfSources (Some folder) r =
 -- by all that a run reads
 abbrev pub IsOfRun : RunOptions → Refusal → Type 0
 IsOfRun options r =
-    IsOfSuite r ⊎ (IsOfHistory options.history r ⊎ IsOfSources options.sources r)
+    IsOfSuite r
+    ⊎ (IsOfHistory options.history r
+    ⊎ (IsOfJournal options.journal r ⊎ IsOfSources options.sources r))
 
 -- by a file at this path that isn't held or is too large, whichever command reads it
 abbrev pub IsUnheld : List ℕ → Refusal → Type 0

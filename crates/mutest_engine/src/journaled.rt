@@ -68,22 +68,38 @@ fn settled(marked: u64, added: Result<(), EdgeFault>) -> Result<(), Halt> {
     }
 }
 
+// Closes the journal with these records.
+fn close_with<K: Keeper, J: Loaded>(
+    alloc: Global,
+    made: &[TrueRecord],
+    journal: Journal<K, TrueRecord, J>,
+) -> (Result<(), Halt>, K) {
+    match lent(alloc, made) {
+        Ok(due) => {
+            let (keeper, marked, added) = journal.close(due.as_slice());
+            (settled(marked, added), keeper)
+        }
+        Err(Memory) => (Err(Halt::WantOfMemory), close_early(journal)),
+    }
+}
+
 // What a job gives that is done, once its journal has all records of its runs.
 fn closed<K: Keeper, J: Loaded>(
     alloc: Global,
     done: JobDone<'_>,
     journal: Journal<K, TrueRecord, J>,
 ) -> (Result<JobMade, Halt>, K) {
-    match lent(alloc, done.made.as_slice()) {
-        Ok(due) => {
-            let (keeper, marked, added) = journal.close(due.as_slice());
-            match settled(marked, added) {
-                Ok(()) => (made_of(alloc, done).map_err(Halt::from), keeper),
-                Err(halt) => (Err(halt), keeper),
-            }
-        }
-        Err(Memory) => (Err(Halt::WantOfMemory), close_early(journal)),
+    let (closed, keeper) = close_with(alloc, done.made.as_slice(), journal);
+    match closed {
+        Ok(()) => (written_of(alloc, done), keeper),
+        Err(halt) => (Err(halt), keeper),
     }
+}
+
+// The same without the journal.
+fn written_of(alloc: Global, done: JobDone<'_>) -> Result<JobMade, Halt> {
+    let made = made_of(alloc, done)?;
+    Ok(made)
 }
 
 // The job with these old records.
