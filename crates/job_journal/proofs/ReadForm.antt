@@ -10,7 +10,7 @@ use Rattle.class_model.specs.declared.outcome.Outcome.TheVariants.{Passed, Faile
 use Rattle.codec_rules.specs.Input.{Input, IsBytes}
 use Rattle.codec_rules.specs.Sequence.{◌>>=◌}
 use Rattle.codec_rules.proofs.Numbers.{bytes_codec}
-use Rattle.codec_rules.proofs.Sequence.{bind_ok, ok_is}
+use Rattle.codec_rules.proofs.Sequence.{bind_ok, ok_is, done}
 use Rattle.program_rules.specs.Names.{Name}
 use Rattle.record_rules.specs.declared.record.RunRecord.{RunRecord}
 use Rattle.history_rules.specs.declared.fault.HistoryFault.{HistoryFault}
@@ -163,20 +163,23 @@ module _ (version : ℕ) (pool : List (List ℕ)) (used : ℕ) (short : AreShort
       let l = bind_ok (pairs_at k.0.0 k.0.1) (λ x. Ok (with_all a.0.0 b.0.0 c.0.0 d.0.0 e.0.0 f.0.0 g.0.0 k.0.0 x.0, x.1)) v k.2 in
       let tl = (pairs_codec k.0.0).takes k.0.1 l.0.0 l.0.1 tk.1 l.1 in
       let m : RunRecord × Input = (with_all a.0.0 b.0.0 c.0.0 d.0.0 e.0.0 f.0.0 g.0.0 k.0.0 l.0.0, l.0.1) in
-      subst (λ (z : RunRecord × Input). MayForm version z.0) (ok_is {F = HistoryFault} m v l.2) (tf.1, λ two. record {
-        class = ta.1;
-        method = tb.1;
-        heap = tc.1;
-        depth = td.1;
-        limit = te.1;
-        outcome = two;
-        steps = tg.1.0;
-        within = tg.1.1;
-        few_names = tk.0.0;
-        names = tk.0.1;
-        few_lines = tl.1.0;
-        lines = tl.1.1;
-      })
+      subst (λ (z : RunRecord × Input). MayForm version z.0) (ok_is {F = HistoryFault} m v l.2) (
+        tf.1,
+        λ two. record {
+          class = ta.1;
+          method = tb.1;
+          heap = tc.1;
+          depth = td.1;
+          limit = te.1;
+          outcome = two;
+          steps = tg.1.0;
+          within = tg.1.1;
+          few_names = tk.0.0;
+          names = tk.0.1;
+          few_lines = tl.1.0;
+          lines = tl.1.1;
+        },
+      )
 
 -- ---- an item
 
@@ -229,7 +232,7 @@ whole_is : (read : Result (Item × Input) HistoryFault) (x : Item) → whole_ite
 whole_is (Err f) x h = absurd cc
 whole_is (Ok (y, rest)) x h = by (length rest.bytes == 0) h
   where
-    by : (b : Bool) → (if b then Some y else None) ≡ Some x → (rest : Input) × (Ok {F = HistoryFault} (y, rest) ≡ Ok (x, rest))
+    by : (b : Bool) → (if b then Some y else None) ≡ Some x → (rest : Input) × (done {F = HistoryFault} (y, rest) ≡ Ok (x, rest))
     by true e = (rest, cc)
     by false e = absurd cc
 

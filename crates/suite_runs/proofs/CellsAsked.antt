@@ -90,7 +90,7 @@ module _ (p : List Info) (j : SuiteJob) (old : OldRecords) (x : Prepared) (r : I
       let cost = cost_most p j (records_in old) keep may.steps_fit may.few_tests in
       let start = may.meter_is in
       record {
-        can = law (allowed_in j) (suite_of may.files p j) (records_in old) (job_in c) suite.accepted (setup_is may.files suite) (mutants_fit written of (suite_of may.files p j) suite.accepted);
+        can = law (allowed_in j) (suite_of may.files p j) (records_in old) (job_in c) suite.accepted suite.holds (setup_is may.files suite) (mutants_fit written of (suite_of may.files p j) suite.accepted);
         fits = fits before may;
         look_ups = look_ups_are;
         some = may.some_workers;

@@ -28,7 +28,10 @@ use Rattle.suite_workers.specs.Jobs.{most_steps}
 use Rattle.record_rules.specs.declared.record.RunRecord.{RunRecord}
 use Rattle.record_rules.specs.Jobs.{with_limit}
 use Rattle.record_rules.specs.Matching.{first_match, is_timed_out, matches}
+use Rattle.record_rules.specs.Profiles.{Held}
 use Rattle.record_rules.specs.Records.{Asked}
+use Rattle.suite_records.specs.Laws.{FoundAreOwnTests, OriginalsAreReusable}
+use Rattle.suite_records.specs.Suites.{IsOwnTest, IsReusable}
 use Rattle.history_rules.specs.Laws.{IsFormed}
 use Rattle.history_file.specs.Rows.{Numbered}
 use Rattle.suite_workers.specs.Below.{made_by, tried_on, asked_on, steps_of}
@@ -67,19 +70,23 @@ use Rattle.suite_runs.proofs.Suited.{bounds_are}
 
 -- ---- the runs of the tests
 
-pub may_make : (p : List Info) (j : SuiteJob) (old : OldRecords) → ReadyMayRun → OriginalsHaveRecords → MayBeRun p j old → MayMakeOriginals p j
-may_make p j old ready have be =
+pub may_make : (p : List Info) (j : SuiteJob) (old : OldRecords) → ReadyMayRun → OriginalsHaveRecords → FoundAreOwnTests → OriginalsAreReusable → MayBeRun p j old → MayMakeOriginals p j
+may_make p j old ready have found reusable be =
     let may = be.1 in
     let suite = may.suite in
     let accepted = suite.accepted in
     let made = accepted.suite in
     let all = have (allowed_in j) (suite_of may.files p j) suite.accepted in
+    let own : All (IsOwnTest may.files) j.tests.now = found may.files p accepted.names j.tests.now made accepted.tests in
     record {
       few = may.few_tests;
       steps_fit = may.steps_fit;
       heap_fits = may.heap_fits;
       runnable = ready p made.of.program may.ready;
       goes_on = λ k lt. subst HasRecord (λ i. asked_on (look p) (sym suite.holds i) (test_at j.tests.now k) j.limits j.steps) (all k no_test lt);
+      reusable = λ k lt.
+          subst (λ (held : Held). IsReusable (asked_on (look p) held (test_at j.tests.now k) j.limits j.steps)) (sym suite.holds)
+          (reusable may.files p (test_at j.tests.now k) j.limits j.steps made (own k no_test lt));
     }
 
 pub same_by_name : (j : SuiteJob) → AreByName j.tests.now (same_steps j)

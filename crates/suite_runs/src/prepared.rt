@@ -29,6 +29,7 @@ use mutator_ops::Mutant;
 use std::alloc::Global;
 use std::sync::Wait;
 use std::thread::Threads;
+use suite_records::{found_are_own_tests, originals_are_reusable};
 use suite_workers::{
     KnownRun, LookUps, OldRecords, OriginalSetup, bounds_are_by_name, mutants_are_of,
     ready_may_run, run_originals, viable_by_workers,
@@ -70,6 +71,8 @@ fn may_make(program: &Program, job: &SuiteJob, old: OldRecords)
 {
     ready_may_run();
     originals_have_records();
+    found_are_own_tests();
+    originals_are_reusable();
 }
 
 // What the workers of original runs share.

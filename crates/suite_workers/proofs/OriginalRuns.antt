@@ -17,6 +17,7 @@ use Rattle.job_rules.specs.Gathered.{flat}
 use Rattle.job_rules.specs.Tried.{Ascend, Tried, cost_of, cost_of_all, known, need_cost, needed, needed_of_all}
 use Rattle.job_rules.specs.Worked.{cells_of}
 use Rattle.run_records.specs.Asking.{asked}
+use Rattle.suite_jobs.specs.Below.{IsReusable}
 use Rattle.suite_jobs.specs.Jobs.{made_by, says}
 use Rattle.suite_jobs.specs.Laws.{steps_of}
 use Rattle.worker_gate.specs.Ends.{mutant_at, test_at as place_at}
@@ -185,6 +186,9 @@ module _ (p : List Info) (x : OriginalSetup) where
 
     pub goes_on : StartsOriginals p x → test < length x.tests.now → record_of (asked p u x.limits x.steps) ≡ Some made_of_it
     goes_on starts within = subst (λ (v : Test). record_of (asked p v x.limits x.steps) ≡ Some (made_by (asked p v x.limits x.steps))) (sym same) (starts.may.goes_on test within)
+
+    pub reusable_in : StartsOriginals p x → test < length x.tests.now → IsReusable (asked p u x.limits x.steps)
+    reusable_in starts within = subst (λ (v : Test). IsReusable (asked p v x.limits x.steps)) (sym same) (starts.may.reusable test within)
 
   -- ---- what all cost
 

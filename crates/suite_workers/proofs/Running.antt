@@ -15,6 +15,7 @@ use Rattle.run_records.specs.Below.{IsRunnable}
 use Rattle.mutant_apply.specs.BytesLaws.{PartsAreOfApplied}
 use Rattle.suite_jobs.specs.Below.{EditedAreReady, ReadyMayRun}
 use Rattle.suite_jobs.specs.Below.{IsReady}
+use Rattle.suite_jobs.specs.Below.{IsReusable}
 use Rattle.suite_jobs.proofs.Below.{ready_with}
 use Rattle.record_rules.specs.declared.record.RunRecord.{RunRecord}
 use Rattle.record_rules.specs.Outcomes.{outcome_at}
@@ -71,6 +72,9 @@ module _ (law : PartsAreOfApplied) (p : List Info) (x : JobSetup) (starts : Star
       ∙ ap (λ q. asked q (test_at x.tests.now test) x.limits (slice_index x.bounds.now test)) has.program_is
       ∙ asked_edited law p at.m at.made stands.2.standing.id.0 has.edited has.makes has.edit at.viable (test_at x.tests.now test) x.limits (slice_index x.bounds.now test)
 
+  run_reusable : (u : Test) → u ≡ test_at x.tests.now test → IsReusable (asked s.program u x.limits (slice_index x.bounds.now test))
+  run_reusable u same = subst IsReusable (sym (asked_is u same)) (starts.can.reusable (at.m, at.covering) at.made test at.pair at.viable at.has)
+
   recorded : record_of (asked_of p (job_in x) at.made test) ≡ Some (made_by (asked_of p (job_in x) at.made test))
   recorded = has_record (asked_of p (job_in x) at.made test) (starts.can.free (at.m, at.covering) at.made test at.pair at.viable at.has)
 
@@ -124,6 +128,9 @@ module _ (p : List Info) (x : JobSetup) (mutant test : ℕ) (cell : IsCellOf (ru
     module _ (u : Test) (test_is : u ≡ test_at x.tests.now test) (limit : ℕ) (limit_is : limit ≡ slice_index x.bounds.now test) where
       same_asked : asked s.program u x.limits limit ≡ asked s.program u x.limits (slice_index x.bounds.now test)
       same_asked = ap (λ n. asked s.program u x.limits n) limit_is
+
+      pub is_reusable : IsReusable (asked s.program u x.limits limit)
+      is_reusable = subst IsReusable (sym same_asked) (run_reusable law p x starts mutant test s stands cell_is.run cell_is.is u test_is)
 
       pub never_none : None ≡ record_of (asked s.program u x.limits limit) → ⊥
       never_none h = not_stuck law p x starts mutant test s stands cell_is.run cell_is.is u test_is (h ∙ ap record_of same_asked)

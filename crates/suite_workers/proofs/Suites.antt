@@ -22,7 +22,8 @@ use Rattle.jvm_world.specs.View.{test_of}
 use Rattle.mutator_ops.specs.declared.mutant.Mutant.{Mutant}
 use Rattle.mutant_apply.specs.Edited.{applied}
 use Rattle.suite_jobs.specs.Below.{mutant_runs_files_of as files_of, mutant_runs_with_class as with_class, mutant_runs_edited as edited, mutant_runs_with_accepted as with_accepted, mutant_runs_viable as viable, IsMutantOf}
-use Rattle.suite_jobs.specs.Below.{IsOwnTest, asked_on, bytes_of, put_file, FoundAreOwnTests, FitsProgram, IsSafe, IsSafeMutant, ViableAreNeverStuck, IsMutated, FoundTestsFit, SuitesAreSafe, classes_in, class_file}
+use Rattle.suite_records.specs.Laws.{IsMade, MutantsAreReusable}
+use Rattle.suite_jobs.specs.Below.{IsOwnTest, IsReusable, asked_on, bytes_of, put_file, FoundAreOwnTests, FitsProgram, IsSafe, IsSafeMutant, ViableAreNeverStuck, IsMutated, FoundTestsFit, SuitesAreSafe, classes_in, class_file}
 use Rattle.record_rules.specs.declared.record.RunRecord.{RunRecord}
 use Rattle.record_rules.specs.Profiles.{Held}
 use Rattle.record_rules.specs.Records.{Asked, run}
@@ -202,6 +203,8 @@ pub record Laws : Type 0 where
   pub safe : SuitesAreSafe
   pub fit : FoundTestsFit
   pub viable : ViableAreNeverStuck
+  pub own : FoundAreOwnTests
+  pub reusable : MutantsAreReusable
 
 module _ (g : Laws) (a : Allowed) (s : Suite) (old : List RunRecord) (h : IsAccepted s) where
   safe : IsSafe s.program
@@ -242,6 +245,20 @@ module _ (g : Laws) (a : Allowed) (s : Suite) (old : List RunRecord) (h : IsAcce
     never_stuck : (k limit : ℕ) (held : Held) → k < length s.tests → IsStuck (run (asked_on (with_class made.0 (look s.program)) held (test_at s.tests k) a.limits limit)).ending → ⊥
     never_stuck k limit held lt stuck = g.viable s.program m (with_class made.0 (look s.program)) (test_at s.tests k) a.limits limit is_safe_mutant (fits k no_test lt) stuck
 
+    is_made : IsMade s.program m made
+    is_made = record {
+      file = of.file;
+      found = of.found;
+      listed = of.listed;
+      applies = sym (ap (option_and_then (λ (c : Class). applied c m.edit)) of.found) ∙ (is_viable s.program m made at).applies;
+    }
+
+    run_reusable : HoldsFiles s.files s.program → (k limit : ℕ) → k < length s.tests → IsReusable (asked_on (with_class made.0 (look s.program)) (put_file made (held_by s.program)) (test_at s.tests k) a.limits limit)
+    run_reusable holds k limit lt =
+        let own : All (IsOwnTest s.files) s.tests = g.own s.files s.program h.names s.tests h.suite h.tests in
+        subst (λ (held : Held). IsReusable (asked_on (with_class made.0 (look s.program)) (put_file made held) (test_at s.tests k) a.limits limit)) (sym holds)
+        (g.reusable s.files s.program m made (test_at s.tests k) a.limits limit h.suite (own k no_test lt) is_made)
+
   -- ---- covering tests
 
   numbers_case : (m : Mutant) (o : Option (Class × List ℕ)) → AllByRecursion (λ k. k < length s.tests) (option_map_or (λ (k : Class × List ℕ). map (λ (t : ℕ × Test). t.0) (covering a s old m)) o [])
@@ -269,8 +286,8 @@ module _ (g : Laws) (a : Allowed) (s : Suite) (old : List RunRecord) (h : IsAcce
   all_covered [] = tt
   all_covered (m ∷ ms) = (is_covered m, all_covered ms)
 
-  pub can_run : All (IsMutantOf (files_of s.program)) s.mutants → CanRun s.program (setup a s old)
-  can_run fit =
+  pub can_run : HoldsFiles s.files s.program → All (IsMutantOf (files_of s.program)) s.mutants → CanRun s.program (setup a s old)
+  can_run holds fit =
       let long_bounds = long_map (bound_of a s old) (numbered s) in
       let long_numbered = length-enumerate_from 0 s.tests in
       record {
@@ -285,7 +302,12 @@ module _ (g : Laws) (a : Allowed) (s : Suite) (old : List RunRecord) (h : IsAcce
             let file = All-contains (IsOfFile s.program) s.mutants m.0 h.mutants of.0 in
             let numbers = (is_covered m.0).numbers in
             never_stuck m.0 file made at k _ (put_file made (held_by s.program)) (All-contains (λ n. n < length s.tests) (covering_numbers a s old m.0) k numbers (subst (λ ns. Contains ns k) of.1 has));
+        reusable = λ m made k in_job at has.
+            let of = paired (covering_numbers a s old) s.mutants m in_job in
+            let file = All-contains (IsOfFile s.program) s.mutants m.0 h.mutants of.0 in
+            let numbers = (is_covered m.0).numbers in
+            run_reusable m.0 file made at holds k _ (All-contains (λ n. n < length s.tests) (covering_numbers a s old m.0) k numbers (subst (λ ns. Contains ns k) of.1 has));
       }
 
 pub may_run : Laws → AcceptedMayRun
-may_run g a s old j accepted h fit = subst (CanRun s.program) (sym (is_setup a s old j h)) (can_run g a s old accepted fit)
+may_run g a s old j accepted holds h fit = subst (CanRun s.program) (sym (is_setup a s old j h)) (can_run g a s old accepted holds fit)

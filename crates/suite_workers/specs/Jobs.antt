@@ -18,7 +18,7 @@ use Rattle.record_rules.specs.Records.{Asked, run}
 use Rattle.job_rules.specs.Gathered.{flat}
 use Rattle.job_rules.specs.Tried.{Tried, known}
 use Rattle.run_records.specs.Asking.{held_by}
-use Rattle.suite_jobs.specs.Below.{asked_on, bytes_of, put_file}
+use Rattle.suite_jobs.specs.Below.{IsReusable, asked_on, bytes_of, put_file}
 use Rattle.suite_jobs.specs.Jobs.{Allowed, Suite, covering, numbered, original_tried, tried_on, viable_file}
 use Rattle.suite_workers.specs.Old.{old_of, test_at}
 use Rattle.suite_workers.specs.declared.setup.JobSetup.{JobSetup}
@@ -98,6 +98,9 @@ pub record CanRun (p : List Info) (j : CellJob) : Type 0 where
   pub free : (m : Mutant × List ℕ) (made : Class × List ℕ) (k : ℕ) →
       Contains (zip j.mutants j.covering) m → viable_file p m.0 ≡ Some made → Contains m.1 k →
       IsStuck (run (asked_of p j made k)).ending → ⊥
+  pub reusable : (m : Mutant × List ℕ) (made : Class × List ℕ) (k : ℕ) →
+      Contains (zip j.mutants j.covering) m → viable_file p m.0 ≡ Some made → Contains m.1 k →
+      IsReusable (asked_of p j made k)
 
 -- ---- of a suite
 

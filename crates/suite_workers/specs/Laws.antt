@@ -17,7 +17,7 @@ CellsAreOfSuite =
 abbrev pub AcceptedMayRun : Type 0
 AcceptedMayRun =
     (a : Allowed) (s : Suite) (old : List RunRecord) (j : CellJob) → IsAccepted s →
-    IsSetupOf a s old j → All (IsMutantOf (files_of s.program)) s.mutants → CanRun s.program j
+    HoldsFiles s.files s.program → IsSetupOf a s old j → All (IsMutantOf (files_of s.program)) s.mutants → CanRun s.program j
 
 -- Tests of one class and method may take the same steps on mutants.
 abbrev pub BoundsAreByName : Type 0

@@ -14,7 +14,7 @@ use Rattle.record_rules.specs.Records.{Asked, record_of}
 use Rattle.run_records.specs.Asking.{asked}
 use Rattle.run_records.specs.Below.{IsRunnable}
 use Rattle.job_rules.specs.Tried.{Tried, cost_of, knowns}
-use Rattle.suite_jobs.specs.Below.{IsReady}
+use Rattle.suite_jobs.specs.Below.{IsReady, IsReusable}
 use Rattle.suite_jobs.specs.Jobs.{made_by, tried_on}
 use Rattle.suite_jobs.specs.Laws.{steps_of}
 use Rattle.worker_gate.specs.Hands.{Runs}
@@ -47,6 +47,7 @@ module _ (p : List Info) (tests : List Test) (limits : Limits) (steps : ℕ) whe
     pub runnable : IsRunnable (look p)
     pub goes_on : (k : ℕ) → k < length tests →
         record_of (test_asked k) ≡ Some (made_by (test_asked k))
+    pub reusable : (k : ℕ) → k < length tests → IsReusable (test_asked k)
 
 -- Those of a setup.
 abbrev pub originals_of : List Info → OriginalSetup → List (Tried RunRecord)

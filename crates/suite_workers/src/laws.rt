@@ -3,7 +3,8 @@
 ghost use Rattle.suite_workers.specs.Laws.{AcceptedMayRun, BoundsAreByName, CellsAreOfSuite};
 
 use suite_jobs::{
-    found_are_own_tests, found_tests_fit, suites_are_safe, viable_mutants_are_never_stuck,
+    found_are_own_tests, found_tests_fit, mutants_are_reusable, suites_are_safe,
+    viable_mutants_are_never_stuck,
 };
 
 /// The runs of the cells of a suite are those of its job on mutants.
@@ -25,4 +26,6 @@ pub fn accepted_may_run()
     suites_are_safe();
     found_tests_fit();
     viable_mutants_are_never_stuck();
+    found_are_own_tests();
+    mutants_are_reusable();
 }

@@ -1,6 +1,6 @@
 use Rattle.std.proofs.Common.{refl}
 use Rattle.suite_workers.specs.Standing.{base_of}
-use Rattle.suite_workers.proofs.Running.{counts_most, counts_so, has_bound, has_room, has_test, is_runnable, makes_so, mutant_has_edit, mutant_within, never_none}
+use Rattle.suite_workers.proofs.Running.{counts_most, counts_so, has_bound, has_room, has_test, is_reusable, is_runnable, makes_so, mutant_has_edit, mutant_within, never_none}
 use Rattle.suite_workers.proofs.Standings.{ran_stand}
 use Rattle.suite_workers.proofs.Works.{stays_work}
 use Rattle.suite_workers.proofs.worker.run_in.Goals as goal
@@ -25,6 +25,9 @@ make_record-requires-clause-small c = c.requires.work.starts.fits.heap
 
 pub make_record-requires-clause-room : goal.make_record-requires-clause-room
 make_record-requires-clause-room c = has_room (base_of c.args.stand.now) c.args.setup.now c.args.mutant c.args.test c.requires.cell c.parts_are_of_applied.ensures c.requires.work.starts c.place.new.stand c.in_ok-place.ensures.placed c.args.part.now c.bound_at-bound.result c.bound_at-bound.ensures c.requires.room
+
+pub make_record-requires-clause-reusable : goal.make_record-requires-clause-reusable
+make_record-requires-clause-reusable c = is_reusable (base_of c.args.stand.now) c.args.setup.now c.args.mutant c.args.test c.requires.cell c.parts_are_of_applied.ensures c.requires.work.starts c.place.new.stand c.in_ok-place.ensures.placed c.test_at-own.result.now c.test_at-own.ensures c.bound_at-bound.result c.bound_at-bound.ensures
 
 pub test_at-own-requires : goal.test_at-own-requires
 test_at-own-requires c = has_test (base_of c.args.stand.now) c.args.setup.now c.args.mutant c.args.test c.requires.cell c.parts_are_of_applied.ensures c.requires.work.starts c.place.new.stand c.in_ok-place.ensures.placed

@@ -1,7 +1,7 @@
 use Rattle.std.proofs.Common.{IfOk, OnOk, arith, subst, sym}
 use Rattle.worker_gate.specs.Hands.{Counts, CountsAtMost, IsCellOf, Makes}
 use Rattle.suite_workers.specs.Marks.{run_reading}
-use Rattle.suite_workers.proofs.OriginalRuns.{counts_in, goes_on, made_in, most_in, test_within}
+use Rattle.suite_workers.proofs.OriginalRuns.{counts_in, goes_on, made_in, most_in, reusable_in, test_within}
 use Rattle.suite_workers.proofs.original_worker.OriginalWorkerHands.run.Goals as goal
 
 pub test_at-own-requires : goal.test_at-own-requires
@@ -22,6 +22,11 @@ made-requires-clause-room c =
 pub made-requires-clause-goes_on : goal.made-requires-clause-goes_on
 made-requires-clause-goes_on c =
     goes_on c.self.inside.program c.self.inside.setup.now c.test_at-own.result.now c.args.test c.test_at-own.ensures c.self.invariant.0
+    (test_within c.self.inside.program c.self.inside.setup.now c.args._mutant c.args.test (subst (λ ms. IsCellOf ms c.args._mutant c.args.test) (sym c.self.view_is) c.requires.cell))
+
+pub made-requires-clause-reusable : goal.made-requires-clause-reusable
+made-requires-clause-reusable c =
+    reusable_in c.self.inside.program c.self.inside.setup.now c.test_at-own.result.now c.args.test c.test_at-own.ensures c.self.invariant.0
     (test_within c.self.inside.program c.self.inside.setup.now c.args._mutant c.args.test (subst (λ ms. IsCellOf ms c.args._mutant c.args.test) (sym c.self.view_is) c.requires.cell))
 
 pub returns-clause-made : goal.returns-clause-made
