@@ -4,3 +4,4 @@ pub mod Numbered
 pub mod Putting
 pub mod ContentsApart
 pub mod Standing
+pub mod Calls
