@@ -5,3 +5,4 @@ pub mod Putting
 pub mod ContentsApart
 pub mod Standing
 pub mod Calls
+pub mod ReadForm

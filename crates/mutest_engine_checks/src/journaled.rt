@@ -164,7 +164,7 @@ fn no_journal_is_told_by_its_place(rt: HostRuntime) -> Result<(), Fail> {
     let bad = run_on(&rt, &[0], &[], "1")?;
     assert!(rt; bad.is(9, "mutest: JournalBad 0\n", 0));
     assert!(rt; bad.is_untouched());
-    assert!(rt; bad.journal.as_slice() == &[0]);
+    assert!(rt; bad.journal.as_slice() == [0].as_slice());
     Ok(())
 }
 
