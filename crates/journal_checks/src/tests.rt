@@ -7,7 +7,7 @@ use crate::made::{Made, NoneLoaded};
 use crate::samples::{begun, first, second};
 use class_model::Bytes;
 use job_journal::{Journal, JournalFault, JournalState};
-use mt_edge::{EdgeFault, MemKeeper, Recorder};
+use mt_edge::{MemKeeper, Recorder};
 use std::alloc::Global;
 use std::test::Fail;
 use std::thread::join;
@@ -76,6 +76,13 @@ fn refused(
     }
 }
 
+// Whether a record is added.
+fn added(state: &mut State, made: &Made) -> bool
+    requires { IsFormed made.now }
+{
+    add(state, made).is_ok()
+}
+
 #[test]
 fn a_record_is_appended_once_with_its_class(rt: HostRuntime) -> Result<(), Fail> {
     let alloc = rt.alloc();
@@ -83,8 +90,8 @@ fn a_record_is_appended_once_with_its_class(rt: HostRuntime) -> Result<(), Fail>
     let whole = whole(alloc)?;
     let (mut state, loaded) = opened(alloc, &[], &[])?;
     assert_eq!(rt; loaded, 0);
-    assert!(rt; add(&mut state, &made).is_ok());
-    assert!(rt; add(&mut state, &made).is_ok());
+    assert!(rt; added(&mut state, &made));
+    assert!(rt; added(&mut state, &made));
     assert!(rt; state.into_keeper().bytes() == whole.as_slice());
     Ok(())
 }
@@ -101,8 +108,8 @@ fn gone_on(
     requires other { IsFormed other.now }
 {
     let (mut state, loaded) = opened(alloc, kept, &[])?;
-    let first = add(&mut state, other).is_ok();
-    let second = add(&mut state, made).is_ok();
+    let first = added(&mut state, other);
+    let second = added(&mut state, made);
     let keeper = state.into_keeper();
     let now = loaded_of(alloc, keeper.bytes())?;
     Ok((loaded, first && second, now))
@@ -136,12 +143,11 @@ fn fails_at(alloc: Global, call: u64, made: &Made, other: &Made) -> Result<(bool
     requires other { IsFormed other.now }
 {
     let (mut state, _loaded) = opened(alloc, &[], &[call])?;
-    let first = add(&mut state, made);
-    let second = add(&mut state, other);
+    let first = !added(&mut state, made);
+    let second = !added(&mut state, other);
     let marked = state.marked();
     let _keeper = state.into_keeper();
-    let fail = matches!(first, Err(EdgeFault::Failed)) && matches!(second, Err(EdgeFault::Failed));
-    Ok((fail, marked))
+    Ok((first && second, marked))
 }
 
 #[test]
@@ -164,22 +170,33 @@ fn an_add_that_fails_is_told(rt: HostRuntime) -> Result<(), Fail> {
     Ok(())
 }
 
+// Whether a journal is closed with this record in it, how many calls have failed, and how many
+// records stand in it then.
+fn closed(
+    alloc: Global,
+    journal: Journal<MemKeeper, Made, NoneLoaded>,
+    made: &Made,
+) -> Result<(bool, u64, usize), Fail>
+    requires { IsFormed made.now }
+{
+    let (keeper, marked, added) = journal.close(&[made]);
+    let now = loaded_of(alloc, keeper.bytes())?;
+    Ok((added.is_ok(), marked, now))
+}
+
 #[test]
 fn two_threads_keep_their_records(rt: HostRuntime) -> Result<(), Fail> {
     let alloc = rt.alloc();
     let made = first(alloc)?;
     let other = second(alloc)?;
     let state = begun(alloc)?;
-    let journal: Journal<MemKeeper, Made, NoneLoaded> = Journal::new(state);
-    let (one, two) = join(
+    let journal = Journal::new(state);
+    let kept = join(
         &rt,
         || journal.keep(&rt, &made).is_ok(),
         || journal.keep(&rt, &other).is_ok(),
     );
-    assert!(rt; one && two);
-    let (keeper, marked, added) = journal.close(&[&made]);
-    assert_eq!(rt; marked, 0);
-    assert!(rt; added.is_ok());
-    assert_eq!(rt; loaded_of(alloc, keeper.bytes())?, 2);
+    let told = closed(alloc, journal, &made)?;
+    assert!(rt; kept == (true, true) && told == (true, 0, 2));
     Ok(())
 }
