@@ -1,5 +1,5 @@
 -- Two records of runs of a test class `T` (this project's own).
-use Rattle.std.specs.Prelude.{List, [], ◌∷◌, Some, None}
+use Rattle.std.specs.Prelude.{[], ◌∷◌, Some, None}
 use Rattle.class_model.specs.declared.outcome.Outcome.TheVariants.{Passed, TimedOut}
 use Rattle.record_rules.specs.declared.record.RunRecord.{RunRecord}
 

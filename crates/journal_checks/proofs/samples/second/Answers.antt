@@ -1,5 +1,4 @@
 use Rattle.std.proofs.Common.{◌∙◌, List, ℕ, [], ◌∷◌, Option, Some, ap}
-use Rattle.history_rules.specs.Entries.{Entry}
 use Rattle.journal_checks.proofs.Formed.{second_is, formed_second}
 use Rattle.journal_checks.proofs.samples.second.Goals as goal
 
