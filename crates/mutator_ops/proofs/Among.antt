@@ -1,6 +1,6 @@
--- The mutants of classes of a program: their members and their order.
+-- The mutants of classes of a program by a table: their members and their order.
 use Rattle.std.proofs.Common.{◌≡◌, ◌∙◌, refl, sym, ap, subst, ◌⊎◌, inl, inr, List, [], ◌∷◌, map, slice_index_or, ℕ}
-use Rattle.std.specs.Prelude.{fold, flat_map}
+use Rattle.std.specs.Prelude.{◌↔◌, ◌<◌, fold, flat_map, Contains, AllPairs}
 use Rattle.std.specs.BTreeMap.{insert_entry}
 use Rattle.std.specs.Ordering.{nat_cmp, match_ordering, is_eq, ordering_reverse}
 use Rattle.std.specs.declared.cmp.Ordering.{Ordering}
@@ -11,12 +11,14 @@ use Rattle.std.proofs.lemmas.Map.Text.{is_eq-slice_cmp}
 use Rattle.std.proofs.lemmas.Slice.Eq.{bytes_eq-Decides}
 use Rattle.class_model.specs.Text.{text}
 use Rattle.class_model.specs.declared.class.Class.{Class}
-use Rattle.class_link.specs.Info.{own_name}
-use Rattle.mutator_ops.specs.Laws.{IsMutant, ComesBefore, HaveOnePlace, ComesBeforeAmong, AmongInOrder, AmongOnce, IsMutantAmong, AmongExactly}
-use Rattle.mutator_ops.specs.Mutants.{class_mutants}
-use Rattle.mutator_ops.specs.Programs.{files_among, in_order, mutants_by_name, mutants}
+use Rattle.class_model.specs.declared.class.ClassId.{ClassId}
+use Rattle.class_model.specs.declared.mutator.Mutator.{Mutator}
+use Rattle.class_link.specs.Info.{Info, own_name}
+use Rattle.mutator_ops.specs.Laws.{IsMutant, table_place, ComesBefore, HaveOnePlace, ComesBeforeAmong, AmongInOrder, AmongOnce, IsMutantAmong, HaveOwnNames, AmongExactly}
+use Rattle.mutator_ops.specs.Mutants.{class_mutants_by}
+use Rattle.mutator_ops.specs.Programs.{files_among, in_order, mutants_by_name, mutants_by}
 use Rattle.mutator_ops.specs.declared.mutant.Mutant.{Mutant}
-use Rattle.mutator_ops.proofs.Lists.{Has, has_left, has_right, contains, has, Each, each_append, each_has, Pairs, pairs_append, all_pairs}
+use Rattle.mutator_ops.proofs.Lists.{Has, has_left, has_right, contains, has, Each, each_append, each_has, Pairs, pairs_append, all_pairs, pairs_of}
 use Rattle.mutator_ops.proofs.Listed.{each_named, in_class, apart, is_mutant, listed}
 
 abbrev Entry : Type 0
@@ -77,20 +79,7 @@ pairs_kept : (kept es : List Entry) → Pairs Below kept → Pairs Below (kept_w
 pairs_kept kept [] q = q
 pairs_kept kept (e ∷ es) q = pairs_kept (insert_entry (slice_cmp nat_cmp) kept e.0 e.1) es (inserted e.0 e.1 kept q)
 
--- ---- entries of classes
-
--- the entry of one of these classes
-abbrev IsOf : List Class → Entry → Type 0
-IsOf classes e = (class : Class) × Has classes class × (e ≡ mutants_by_name class)
-
-each_of : (all : List Class) (classes : List Class) → ((c : Class) → Has classes c → Has all c) → Each (IsOf all) (map mutants_by_name classes)
-each_of all [] q = tt
-each_of all (c ∷ classes) q = ((c, q c (inl refl), refl), each_of all classes (λ d h. q d (inr h)))
-
-are_of : (classes : List Class) → Each (IsOf classes) (in_order (map mutants_by_name classes))
-are_of classes = each_kept (IsOf classes) [] (map mutants_by_name classes) tt (each_of classes classes (λ c h. h))
-
--- ---- the order
+-- ---- what holds of each
 
 pairs_by : {X : Type 0} (P : X → Type 0) (R S : X → X → Type 0) → ((a b : X) → P a → P b → R a b → S a b) → (xs : List X) → Each P xs → Pairs R xs → Pairs S xs
 pairs_by P R S f [] p q = tt
@@ -106,48 +95,6 @@ each_by P Q f (x ∷ xs) p = (f x p.0, each_by P Q f xs p.1)
 
 abbrev HasName : List ℕ → Mutant → Type 0
 HasName n m = m.class ≡ n
-
-in_file : (c : Class) → Pairs ComesBeforeAmong (class_mutants c)
-in_file c = pairs_by (HasName (own_name c)) ComesBefore ComesBeforeAmong (λ a b p q r. inr (p ∙ sym q, r)) (class_mutants c) (each_named c) (in_class c)
-
--- the mutants of later entries come behind those of this one
-behind : (all : List Class) (e : Entry) (es : List Entry) → IsOf all e → Each (IsOf all) es → Each (Below e) es
-    → Each (λ a. Each (ComesBeforeAmong a) (flat_map (λ (x : Entry). x.1) es)) e.1
-behind all e es of ofs below =
-    subst (λ (x : Entry). Each (λ a. Each (ComesBeforeAmong a) (flat_map (λ (y : Entry). y.1) es)) x.1) (sym of.2)
-    (each_by (HasName (own_name of.0)) (λ a. Each (ComesBeforeAmong a) (flat_map (λ (y : Entry). y.1) es)) (λ a named. later a named es ofs below) (class_mutants of.0) (each_named of.0))
-  where
-    later : (a : Mutant) → a.class ≡ own_name of.0 → (xs : List Entry) → Each (IsOf all) xs → Each (Below e) xs → Each (ComesBeforeAmong a) (flat_map (λ (y : Entry). y.1) xs)
-    later a named [] p q = tt
-    later a named (x ∷ xs) p q =
-        let key : e.0 ≡ text a.class = ap (λ (y : Entry). y.0) of.2 ∙ ap text (sym named) in
-        let other : x.0 ≡ text (own_name p.0.0) = ap (λ (y : Entry). y.0) p.0.2 in
-        let lies : slice_cmp nat_cmp (text a.class) (text (own_name p.0.0)) ≡ Less = subst (λ (n : List ℕ). slice_cmp nat_cmp n (text (own_name p.0.0)) ≡ Less) key (subst (λ (n : List ℕ). slice_cmp nat_cmp e.0 n ≡ Less) other q.0) in
-        each_append (ComesBeforeAmong a) x.1 (flat_map (λ (y : Entry). y.1) xs)
-        (subst (λ (y : Entry). Each (ComesBeforeAmong a) y.1) (sym p.0.2)
-        (each_by (HasName (own_name p.0.0)) (ComesBeforeAmong a) (λ b n. inl (subst (λ (t : List ℕ). slice_cmp nat_cmp (text a.class) (text t) ≡ Less) (sym n) lies)) (class_mutants p.0.0) (each_named p.0.0)))
-        (later a named xs p.1 q.1)
-
-in_entries : (all : List Class) (es : List Entry) → Each (IsOf all) es → Pairs Below es → Pairs ComesBeforeAmong (flat_map (λ (e : Entry). e.1) es)
-in_entries all [] p q = tt
-in_entries all (e ∷ es) p q =
-    pairs_append ComesBeforeAmong e.1 (flat_map (λ (x : Entry). x.1) es)
-    (subst (λ (x : Entry). Pairs ComesBeforeAmong x.1) (sym p.0.2) (in_file p.0.0)) (in_entries all es p.1 q.1) (behind all e es p.0 p.1 q.0)
-
-pub among_in_order : AmongInOrder
-among_in_order p ids =
-    let classes = files_among p ids in
-    all_pairs ComesBeforeAmong (mutants p ids)
-    (in_entries classes (in_order (map mutants_by_name classes)) (are_of classes) (pairs_kept [] (map mutants_by_name classes) tt))
-
-apart_among : (a b : Mutant) → ComesBeforeAmong a b → (a.class ≡ b.class) × HaveOnePlace a b → ⊥
-apart_among a b (inl below) one = itself (text b.class) (subst (λ (n : List ℕ). slice_cmp nat_cmp (text n) (text b.class) ≡ Less) one.0 below)
-apart_among a b (inr later) one = apart a b later.1 one.1
-
-pub among_once : AmongOnce
-among_once p ids i j d below within = apart_among (slice_index_or (mutants p ids) i d) (slice_index_or (mutants p ids) j d) (among_in_order p ids i j d below within)
-
--- ---- the members
 
 has_block : (es : List Entry) (e : Entry) (m : Mutant) → Has es e → Has e.1 m → Has (flat_map (λ (x : Entry). x.1) es) m
 has_block [] e m h q = absurd h
@@ -178,35 +125,100 @@ old_stands k v (e ∷ es) x other h = by (slice_cmp nat_cmp k e.0) refl (old_sta
     by Greater is more (inl same) = inl same
     by Greater is more (inr g) = inr (more g)
 
--- a class's entry stays, where no later one has its name
-stays : (c : Class) (classes : List Class) (kept : List Entry) → ((d : Class) → Has classes d → text (own_name d) ≡ text (own_name c) → d ≡ c)
-    → Has kept (mutants_by_name c) ⊎ Has classes c → Has (kept_with kept (map mutants_by_name classes)) (mutants_by_name c)
-stays c [] kept alone (inl h) = h
-stays c [] kept alone (inr h) = absurd h
-stays c (d ∷ classes) kept alone (inr (inr h)) = stays c classes (insert_entry (slice_cmp nat_cmp) kept (text (own_name d)) (class_mutants d)) (λ x g. alone x (inr g)) (inr h)
-stays c (d ∷ classes) kept alone (inr (inl is)) =
-    stays c classes (insert_entry (slice_cmp nat_cmp) kept (text (own_name d)) (class_mutants d)) (λ x g. alone x (inr g))
-    (inl (subst (λ (x : Class). Has (insert_entry (slice_cmp nat_cmp) kept (text (own_name d)) (class_mutants d)) (mutants_by_name x)) is (new_stands (text (own_name d)) (class_mutants d) kept)))
-stays c (d ∷ classes) kept alone (inl h) =
-    stays c classes (insert_entry (slice_cmp nat_cmp) kept (text (own_name d)) (class_mutants d)) (λ x g. alone x (inr g)) (inl (by (slice_cmp nat_cmp (text (own_name d)) (text (own_name c))) refl))
-  where
-    other : (o : Ordering) → slice_cmp nat_cmp (text (own_name d)) (text (own_name c)) ≡ o → (o ≡ Equal → ⊥) → Has (insert_entry (slice_cmp nat_cmp) kept (text (own_name d)) (class_mutants d)) (mutants_by_name c)
-    other o is unlike = old_stands (text (own_name d)) (class_mutants d) kept (mutants_by_name c) (λ e. unlike (sym is ∙ e)) h
+module _ (table : List Mutator) where
+  -- ---- entries of classes
 
-    by : (o : Ordering) → slice_cmp nat_cmp (text (own_name d)) (text (own_name c)) ≡ o → Has (insert_entry (slice_cmp nat_cmp) kept (text (own_name d)) (class_mutants d)) (mutants_by_name c)
-    by Less is = other Less is (λ e. absurd cc)
-    by Greater is = other Greater is (λ e. absurd cc)
-    by Equal is = subst (λ (x : Class). Has (insert_entry (slice_cmp nat_cmp) kept (text (own_name d)) (class_mutants d)) (mutants_by_name x)) (alone d (inl refl) (equal (text (own_name d)) (text (own_name c)) is)) (new_stands (text (own_name d)) (class_mutants d) kept)
+  -- the entry of one of these classes
+  abbrev IsOf : List Class → Entry → Type 0
+  IsOf classes e = (class : Class) × Has classes class × (e ≡ mutants_by_name table class)
+
+  each_of : (all : List Class) (classes : List Class) → ((c : Class) → Has classes c → Has all c) → Each (IsOf all) (map (mutants_by_name table) classes)
+  each_of all [] q = tt
+  each_of all (c ∷ classes) q = ((c, q c (inl refl), refl), each_of all classes (λ d h. q d (inr h)))
+
+  are_of : (classes : List Class) → Each (IsOf classes) (in_order (map (mutants_by_name table) classes))
+  are_of classes = each_kept (IsOf classes) [] (map (mutants_by_name table) classes) tt (each_of classes classes (λ c h. h))
+
+  -- a class's entry stays, where no later one has its name
+  stays : (c : Class) (classes : List Class) (kept : List Entry) → ((d : Class) → Has classes d → text (own_name d) ≡ text (own_name c) → d ≡ c)
+      → Has kept (mutants_by_name table c) ⊎ Has classes c → Has (kept_with kept (map (mutants_by_name table) classes)) (mutants_by_name table c)
+  stays c [] kept alone (inl h) = h
+  stays c [] kept alone (inr h) = absurd h
+  stays c (d ∷ classes) kept alone (inr (inr h)) = stays c classes (insert_entry (slice_cmp nat_cmp) kept (text (own_name d)) (class_mutants_by table d)) (λ x g. alone x (inr g)) (inr h)
+  stays c (d ∷ classes) kept alone (inr (inl is)) =
+      stays c classes (insert_entry (slice_cmp nat_cmp) kept (text (own_name d)) (class_mutants_by table d)) (λ x g. alone x (inr g))
+      (inl (subst (λ (x : Class). Has (insert_entry (slice_cmp nat_cmp) kept (text (own_name d)) (class_mutants_by table d)) (mutants_by_name table x)) is (new_stands (text (own_name d)) (class_mutants_by table d) kept)))
+  stays c (d ∷ classes) kept alone (inl h) =
+      stays c classes (insert_entry (slice_cmp nat_cmp) kept (text (own_name d)) (class_mutants_by table d)) (λ x g. alone x (inr g)) (inl (by (slice_cmp nat_cmp (text (own_name d)) (text (own_name c))) refl))
+    where
+      other : (o : Ordering) → slice_cmp nat_cmp (text (own_name d)) (text (own_name c)) ≡ o → (o ≡ Equal → ⊥) → Has (insert_entry (slice_cmp nat_cmp) kept (text (own_name d)) (class_mutants_by table d)) (mutants_by_name table c)
+      other o is unlike = old_stands (text (own_name d)) (class_mutants_by table d) kept (mutants_by_name table c) (λ e. unlike (sym is ∙ e)) h
+
+      by : (o : Ordering) → slice_cmp nat_cmp (text (own_name d)) (text (own_name c)) ≡ o → Has (insert_entry (slice_cmp nat_cmp) kept (text (own_name d)) (class_mutants_by table d)) (mutants_by_name table c)
+      by Less is = other Less is (λ e. absurd cc)
+      by Greater is = other Greater is (λ e. absurd cc)
+      by Equal is = subst (λ (x : Class). Has (insert_entry (slice_cmp nat_cmp) kept (text (own_name d)) (class_mutants_by table d)) (mutants_by_name table x)) (alone d (inl refl) (equal (text (own_name d)) (text (own_name c)) is)) (new_stands (text (own_name d)) (class_mutants_by table d) kept)
+
+  one_of : (p : List Info) (ids : List ClassId) → HaveOwnNames (files_among p ids) → (m : Mutant) → Contains (mutants_by table p ids) m ↔ IsMutantAmong table p ids m
+  one_of p ids names m = (
+    (λ h. each_has (IsMutantAmong table p ids) (mutants_by table p ids) m (each_in_block (IsMutantAmong table p ids) (in_order (map (mutants_by_name table) classes)) (each_by (IsOf classes) (λ (e : Entry). Each (IsMutantAmong table p ids) e.1) one (in_order (map (mutants_by_name table) classes)) (are_of classes))) (has (mutants_by table p ids) m h)),
+    (λ q. contains (mutants_by table p ids) m (has_block (in_order (map (mutants_by_name table) classes)) (mutants_by_name table q.class) m
+        (stays q.class classes [] (λ d h e. names d q.class (contains classes d h) q.named e) (inr (has classes q.class q.named))) (listed table q.class m q.mutant))),
+  )
+    where
+      classes : List Class
+      classes = files_among p ids
+
+      one : (e : Entry) → IsOf classes e → Each (IsMutantAmong table p ids) e.1
+      one e of = subst (λ (x : Entry). Each (IsMutantAmong table p ids) x.1) (sym of.2) (each_by (IsMutant table of.0) (IsMutantAmong table p ids) (λ x q. record { class = of.0; named = contains classes of.0 of.1; mutant = q }) (class_mutants_by table of.0) (is_mutant table of.0))
+
+  -- ---- the order
+
+  module _ (ascends : Pairs (λ a b. table_place a < table_place b) table) where
+    in_file : (c : Class) → Pairs ComesBeforeAmong (class_mutants_by table c)
+    in_file c = pairs_by (HasName (own_name c)) ComesBefore ComesBeforeAmong (λ a b p q r. inr (p ∙ sym q, r)) (class_mutants_by table c) (each_named table c) (in_class table ascends c)
+
+    -- the mutants of later entries come behind those of this one
+    behind : (all : List Class) (e : Entry) (es : List Entry) → IsOf all e → Each (IsOf all) es → Each (Below e) es
+        → Each (λ a. Each (ComesBeforeAmong a) (flat_map (λ (x : Entry). x.1) es)) e.1
+    behind all e es of ofs below =
+        subst (λ (x : Entry). Each (λ a. Each (ComesBeforeAmong a) (flat_map (λ (y : Entry). y.1) es)) x.1) (sym of.2)
+        (each_by (HasName (own_name of.0)) (λ a. Each (ComesBeforeAmong a) (flat_map (λ (y : Entry). y.1) es)) (λ a named. later a named es ofs below) (class_mutants_by table of.0) (each_named table of.0))
+      where
+        later : (a : Mutant) → a.class ≡ own_name of.0 → (xs : List Entry) → Each (IsOf all) xs → Each (Below e) xs → Each (ComesBeforeAmong a) (flat_map (λ (y : Entry). y.1) xs)
+        later a named [] p q = tt
+        later a named (x ∷ xs) p q =
+            let key : e.0 ≡ text a.class = ap (λ (y : Entry). y.0) of.2 ∙ ap text (sym named) in
+            let other : x.0 ≡ text (own_name p.0.0) = ap (λ (y : Entry). y.0) p.0.2 in
+            let lies : slice_cmp nat_cmp (text a.class) (text (own_name p.0.0)) ≡ Less = subst (λ (n : List ℕ). slice_cmp nat_cmp n (text (own_name p.0.0)) ≡ Less) key (subst (λ (n : List ℕ). slice_cmp nat_cmp e.0 n ≡ Less) other q.0) in
+            each_append (ComesBeforeAmong a) x.1 (flat_map (λ (y : Entry). y.1) xs)
+            (subst (λ (y : Entry). Each (ComesBeforeAmong a) y.1) (sym p.0.2)
+            (each_by (HasName (own_name p.0.0)) (ComesBeforeAmong a) (λ b n. inl (subst (λ (t : List ℕ). slice_cmp nat_cmp (text a.class) (text t) ≡ Less) (sym n) lies)) (class_mutants_by table p.0.0) (each_named table p.0.0)))
+            (later a named xs p.1 q.1)
+
+    in_entries : (all : List Class) (es : List Entry) → Each (IsOf all) es → Pairs Below es → Pairs ComesBeforeAmong (flat_map (λ (e : Entry). e.1) es)
+    in_entries all [] p q = tt
+    in_entries all (e ∷ es) p q =
+        pairs_append ComesBeforeAmong e.1 (flat_map (λ (x : Entry). x.1) es)
+        (subst (λ (x : Entry). Pairs ComesBeforeAmong x.1) (sym p.0.2) (in_file p.0.0)) (in_entries all es p.1 q.1) (behind all e es p.0 p.1 q.0)
+
+    among_ordered : (p : List Info) (ids : List ClassId) → AllPairs ComesBeforeAmong (mutants_by table p ids)
+    among_ordered p ids =
+        let classes = files_among p ids in
+        all_pairs ComesBeforeAmong (mutants_by table p ids)
+        (in_entries classes (in_order (map (mutants_by_name table) classes)) (are_of classes) (pairs_kept [] (map (mutants_by_name table) classes) tt))
+
+-- ---- the laws
+
+pub among_in_order : AmongInOrder
+among_in_order table p ids ordered = among_ordered table (pairs_of (λ a b. table_place a < table_place b) table ordered) p ids
+
+apart_among : (a b : Mutant) → ComesBeforeAmong a b → (a.class ≡ b.class) × HaveOnePlace a b → ⊥
+apart_among a b (inl below) one = itself (text b.class) (subst (λ (n : List ℕ). slice_cmp nat_cmp (text n) (text b.class) ≡ Less) one.0 below)
+apart_among a b (inr later) one = apart a b later.1 one.1
+
+pub among_once : AmongOnce
+among_once table p ids ordered i j d below within = apart_among (slice_index_or (mutants_by table p ids) i d) (slice_index_or (mutants_by table p ids) j d) (among_in_order table p ids ordered i j d below within)
 
 pub among_exactly : AmongExactly
-among_exactly p ids names m = (
-  (λ h. each_has (IsMutantAmong p ids) (mutants p ids) m (each_in_block (IsMutantAmong p ids) (in_order (map mutants_by_name classes)) (each_by (IsOf classes) (λ (e : Entry). Each (IsMutantAmong p ids) e.1) one (in_order (map mutants_by_name classes)) (are_of classes))) (has (mutants p ids) m h)),
-  (λ q. contains (mutants p ids) m (has_block (in_order (map mutants_by_name classes)) (mutants_by_name q.class) m
-      (stays q.class classes [] (λ d h e. names d q.class (contains classes d h) q.named e) (inr (has classes q.class q.named))) (listed q.class m q.mutant))),
-)
-  where
-    classes : List Class
-    classes = files_among p ids
-
-    one : (e : Entry) → IsOf classes e → Each (IsMutantAmong p ids) e.1
-    one e of = subst (λ (x : Entry). Each (IsMutantAmong p ids) x.1) (sym of.2) (each_by (IsMutant of.0) (IsMutantAmong p ids) (λ x q. record { class = of.0; named = contains classes of.0 of.1; mutant = q }) (class_mutants of.0) (is_mutant of.0))
+among_exactly table p ids names m = one_of table p ids names m

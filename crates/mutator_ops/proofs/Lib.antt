@@ -1,5 +1,7 @@
 mod CountLaws
 mod ProgramLaws
-mod Lists
+pub mod Lists
+mod TextLaws
+mod OpeningLaws
 pub mod Listed
 mod Among

@@ -3,7 +3,7 @@ use Rattle.std.proofs.Common.{◌≡◌, refl, subst, ℕ, zero, suc, ◌<◌, �
 use Rattle.std.specs.Prelude.{Contains, AllPairs, ◌&&◌, nat_lt}
 use Rattle.std.specs.List.{AllByRecursion, list_all}
 use Rattle.std.proofs.lemmas.Bool.{ltb-true}
-use Rattle.std.proofs.lemmas.List.Elements.{All-from_recursion}
+use Rattle.std.proofs.lemmas.List.Elements.{All-from_recursion, recursion_from_All}
 use Rattle.std.proofs.lemmas.List.Kept.{AllPairs-cons}
 
 -- ---- members
@@ -61,6 +61,10 @@ pairs_append R (x ∷ xs) ys p q c = (each_append (R x) xs ys p.0 c.0, pairs_app
 pub all_pairs : {X : Type 0} (R : X → X → Type 0) (xs : List X) → Pairs R xs → AllPairs R xs
 all_pairs R [] p = λ i j d below within. absurd (omega (arith, within))
 all_pairs R (x ∷ xs) p = AllPairs-cons R x xs (All-from_recursion (R x) xs p.0) (all_pairs R xs p.1)
+
+pub pairs_of : {X : Type 0} (R : X → X → Type 0) (xs : List X) → AllPairs R xs → Pairs R xs
+pairs_of R [] p = tt
+pairs_of {X} R (x ∷ xs) p = (recursion_from_All (R x) xs (λ k d lt. p 0 (suc k) d (omega arith) (omega (arith, lt))), pairs_of R xs (λ i j d below within. p (suc i) (suc j) d (omega (arith, below)) (omega (arith, within))))
 
 -- ---- numbers that ascend
 

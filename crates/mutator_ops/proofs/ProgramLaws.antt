@@ -14,6 +14,7 @@ use Rattle.std.proofs.lemmas.List.Elements.{filter_map-append}
 use Rattle.std.proofs.lemmas.List.Sums.{fold-append, sum_by-cons}
 use Rattle.class_model.specs.declared.class.Class.{Class}
 use Rattle.class_model.specs.declared.class.ClassId.{ClassId}
+use Rattle.class_model.specs.declared.mutator.Mutator.{Mutator}
 use Rattle.class_link.specs.Info.{Info}
 use Rattle.mutator_ops.specs.Counts.{count_by_name}
 use Rattle.mutator_ops.specs.Programs.{file_at, files_among, in_order, mutants_by_name, mutants_among, among_by_name, with_class}
@@ -36,11 +37,11 @@ at_end {X} by_name p ids id =
 more : {X : Type 0} (by_name : Class → List ℕ × X) (p : List Info) (ids : List ClassId) (i : ℕ) (d : ClassId) → i < length ids → by_names by_name (files_among p (take (i + 1) ids)) ≡ with_class by_name (by_names by_name (files_among p (take i ids))) (file_at p (get_or ids i d))
 more by_name p ids i d lt = ap (λ (l : List ClassId). by_names by_name (files_among p l)) (take_more ids i d lt) ∙ at_end by_name p (take i ids) (get_or ids i d)
 
-pub one_more : (p : List Info) (ids : List ClassId) (i : ℕ) (d : ClassId) → i < length ids → among_by_name mutants_by_name p (take (i + 1) ids) ≡ with_class mutants_by_name (among_by_name mutants_by_name p (take i ids)) (file_at p (get_or ids i d))
-one_more p ids i d lt = more mutants_by_name p ids i d lt
+pub one_more : (table : List Mutator) (p : List Info) (ids : List ClassId) (i : ℕ) (d : ClassId) → i < length ids → among_by_name (mutants_by_name table) p (take (i + 1) ids) ≡ with_class (mutants_by_name table) (among_by_name (mutants_by_name table) p (take i ids)) (file_at p (get_or ids i d))
+one_more table p ids i d lt = more (mutants_by_name table) p ids i d lt
 
-pub one_more_count : (p : List Info) (ids : List ClassId) (i : ℕ) (d : ClassId) → i < length ids → among_by_name count_by_name p (take (i + 1) ids) ≡ with_class count_by_name (among_by_name count_by_name p (take i ids)) (file_at p (get_or ids i d))
-one_more_count p ids i d lt = more count_by_name p ids i d lt
+pub one_more_count : (table : List Mutator) (p : List Info) (ids : List ClassId) (i : ℕ) (d : ClassId) → i < length ids → among_by_name (count_by_name table) p (take (i + 1) ids) ≡ with_class (count_by_name table) (among_by_name (count_by_name table) p (take i ids)) (file_at p (get_or ids i d))
+one_more_count table p ids i d lt = more (count_by_name table) p ids i d lt
 
 -- ---- what is kept by names, with each value seen in another way
 
@@ -78,15 +79,16 @@ all_saturated (e ∷ es) =
     let other = sum_by-cons (λ (e : List ℕ × List Mutant). length e.1) e es in
     omega (arith, rest, one, other)
 
-each_seen : (classes : List Class) → map count_by_name classes ≡ map (seen saturated) (map mutants_by_name classes)
-each_seen [] = refl
-each_seen (c ∷ cs) = ap (λ (l : List (List ℕ × ℕ)). count_by_name c ∷ l) (each_seen cs)
+module _ (table : List Mutator) where
+  each_seen : (classes : List Class) → map (count_by_name table) classes ≡ map (seen saturated) (map (mutants_by_name table) classes)
+  each_seen [] = refl
+  each_seen (c ∷ cs) = ap (λ (l : List (List ℕ × ℕ)). count_by_name table c ∷ l) (each_seen cs)
 
--- The counts of classes by their names, summed, are how many mutants there are.
-pub counts_are : (classes : List Class) → u64_saturate (sum_by (λ (e : List ℕ × ℕ). e.1) (in_order (map count_by_name classes))) ≡ u64_saturate (length (mutants_among classes))
-counts_are classes =
-    let kept = in_order (map mutants_by_name classes) in
-    ap (λ (l : List (List ℕ × ℕ)). u64_saturate (sum_by (λ (e : List ℕ × ℕ). e.1) (in_order l))) (each_seen classes)
-    ∙ ap (λ (l : List (List ℕ × ℕ)). u64_saturate (sum_by (λ (e : List ℕ × ℕ). e.1) l)) (sym (fold_seen (slice_cmp nat_cmp) saturated [] (map mutants_by_name classes)))
-    ∙ all_saturated kept
-    ∙ ap u64_saturate (sym (sum_lengths kept))
+  -- The counts of classes by their names, summed, are how many mutants there are.
+  pub counts_are : (classes : List Class) → u64_saturate (sum_by (λ (e : List ℕ × ℕ). e.1) (in_order (map (count_by_name table) classes))) ≡ u64_saturate (length (mutants_among table classes))
+  counts_are classes =
+      let kept = in_order (map (mutants_by_name table) classes) in
+      ap (λ (l : List (List ℕ × ℕ)). u64_saturate (sum_by (λ (e : List ℕ × ℕ). e.1) (in_order l))) (each_seen classes)
+      ∙ ap (λ (l : List (List ℕ × ℕ)). u64_saturate (sum_by (λ (e : List ℕ × ℕ). e.1) l)) (sym (fold_seen (slice_cmp nat_cmp) saturated [] (map (mutants_by_name table) classes)))
+      ∙ all_saturated kept
+      ∙ ap u64_saturate (sym (sum_lengths kept))

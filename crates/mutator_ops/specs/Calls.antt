@@ -35,17 +35,29 @@ pool_index (arg.Pool index) = index
 pool_index (arg.Multi index count) = index
 pool_index other = 0
 
+-- the class that a method's entry names
+abbrev pub class_named : Const → Option ℕ
+class_named (const.Method class pair) = Some class
+class_named (const.IMethod class pair) = Some class
+class_named other = None
+
 -- the pair that a method's entry names
 abbrev pub pair_named : Const → Option ℕ
 pair_named (const.Method class pair) = Some pair
 pair_named (const.IMethod class pair) = Some pair
 pair_named other = None
 
--- the index of the pair of the method that an instruction calls
+-- the entry of the method that an instruction calls
+abbrev pub called_entry : List Const → Insn → Option Const
+called_entry pool insn = if is_call insn.op then entry_of pool (pool_index insn.arg) else None
+
+-- the index of its class
+abbrev pub called_class : List Const → Insn → Option ℕ
+called_class pool insn = option_and_then class_named (called_entry pool insn)
+
+-- the index of its pair
 abbrev pub called_pair : List Const → Insn → Option ℕ
-called_pair pool insn =
-    if is_call insn.op then option_and_then pair_named (entry_of pool (pool_index insn.arg))
-    else None
+called_pair pool insn = option_and_then pair_named (called_entry pool insn)
 
 -- what the method of a pair takes and gives
 abbrev pub pair_type : List Const → ℕ → Option MethodType
@@ -64,6 +76,11 @@ abbrev pub is_initializer : List Const → ℕ → Bool
 is_initializer pool pair =
     unwrap_or (option_map (λ name. same name instance_initializer) (pair_name_of pool pair)) false
 
+-- the instruction calls a method `<init>`
+abbrev pub calls_initializer : List Const → Insn → Bool
+calls_initializer pool insn =
+    unwrap_or (option_map (is_initializer pool) (called_pair pool insn)) false
+
 abbrev pub gives_nothing : Option MethodType → Bool
 gives_nothing None = false
 gives_nothing (Some t) = is_none t.ret
@@ -71,5 +88,4 @@ gives_nothing (Some t) = is_none t.ret
 -- a call of a method without a result, which isn't `<init>`
 abbrev pub is_void_call : List Const → Insn → Bool
 is_void_call pool insn =
-    gives_nothing (called_type pool insn)
-    && not (unwrap_or (option_map (is_initializer pool) (called_pair pool insn)) false)
+    gives_nothing (called_type pool insn) && not (calls_initializer pool insn)

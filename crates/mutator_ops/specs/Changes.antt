@@ -84,8 +84,13 @@ abbrev pub new_insns : List Const → Change → Insn → List NewInsn
 new_insns pool (change.Opcode op) insn =
     new.Plain (record { op = op; wide = insn.wide; arg = insn.arg }) ∷ []
 new_insns pool (change.Increment local by) insn = new.Inc local by ∷ []
-new_insns pool change.Nothing insn = bare 0x00 ∷ []
+new_insns pool (change.Alone op) insn = bare op ∷ []
 new_insns pool change.Pops insn = map bare (or_nop (pops insn.op (called_args pool insn)))
+new_insns pool (change.Gives op) insn =
+    map bare (pops insn.op (called_args pool insn) ++ op ∷ [])
+-- pop (57) of the object that is kept, aconst_null (01)
+new_insns pool change.Unmakes insn =
+    map bare (pops insn.op (called_args pool insn) ++ 0x57 ∷ 0x01 ∷ [])
 new_insns pool (change.Returns value) insn =
     pop_before insn ∷ value_insns value ++ new.Plain insn ∷ []
 

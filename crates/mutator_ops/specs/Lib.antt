@@ -1,4 +1,8 @@
 pub mod Calls
+pub mod Texts
+pub mod TextNumbers
+pub mod Openings
+pub mod Opened
 pub mod Changes
 pub mod Table
 pub mod Mutants

@@ -1,6 +1,6 @@
--- The mutants of a class (this project's own): methods in file order, instructions by number,
--- mutators in the order of the table.
-use Rattle.std.specs.Prelude.{ℕ, ◌+◌, Bool, not, ◌&&◌, ◌||◌, ◌==◌, false, nat_eq, bit_and, if◌then◌else◌, codes, List, [], ◌∷◌, ◌++◌, Option, None, Some, option_and_then, unwrap_or}
+-- The mutants of a class by a table, a list of mutators (this project's own): methods in file order,
+-- instructions by number, mutators in the order of the table.
+use Rattle.std.specs.Prelude.{ℕ, ◌+◌, Bool, not, ◌&&◌, ◌||◌, ◌==◌, true, false, nat_eq, bit_and, if◌then◌else◌, codes, List, [], ◌∷◌, ◌++◌, Option, None, Some, option_and_then, unwrap_or}
 use Rattle.std.specs.List.{flat_map, list_any, starts_with, ends_with}
 use Rattle.std.specs.Option.{option_map}
 use Rattle.class_model.specs.Pool.{text_of}
@@ -15,6 +15,7 @@ use Rattle.class_model.specs.declared.constant.Const.{Const}
 use Rattle.class_model.specs.declared.edit.Edit.{Edit}
 use Rattle.class_model.specs.declared.instruction.Insn.{Insn}
 use Rattle.class_model.specs.declared.mutator.Mutator.{Mutator}
+use Rattle.class_model.specs.declared.mutator.Mutator.TheVariants as mutator
 use Rattle.program_rules.specs.Linked.{LinkedLine, line_at}
 use Rattle.program_rules.specs.Names.{same}
 use Rattle.class_link.specs.Info.{own_name}
@@ -22,6 +23,7 @@ use Rattle.class_link.specs.Linking.{content_of, lines_of}
 use Rattle.class_link.specs.Symbols.{text_named}
 use Rattle.mutator_ops.specs.Calls.{type_of}
 use Rattle.mutator_ops.specs.Changes.{new_insns, more_words}
+use Rattle.mutator_ops.specs.Openings.{closings_in, closes_at}
 use Rattle.mutator_ops.specs.Table.{Asked, mutators, row}
 use Rattle.mutator_ops.specs.declared.change.Change.{Change}
 use Rattle.mutator_ops.specs.declared.mutant.Mutant.{Mutant}
@@ -79,16 +81,27 @@ pub record Place : Type 0 where
   pub number : ℕ
   pub lines : List LinkedLine
   pub asked : Asked
+  -- which of its instructions close a `new`
+  pub closing : List Bool
+
+-- whether the mutators of a table ask which instructions close a `new`
+abbrev pub is_of_constructors : Mutator → Bool
+is_of_constructors mutator.ConstructorCalls = true
+is_of_constructors other = false
+
+abbrev pub asks_closings : List Mutator → Bool
+asks_closings table = list_any is_of_constructors table
 
 -- The place of a method of a class of this name and constant pool.
-abbrev pub place_in : List ℕ → List Const → ℕ → Member → Code → Place
-place_in class pool number member code = record {
+abbrev pub place_in : List Mutator → List ℕ → List Const → ℕ → Member → Code → Place
+place_in table class pool number member code = record {
   class = class;
   method = text_named pool member.name;
   desc = text_named pool member.desc;
   number = number;
   lines = line_rows (out-Code code).attrs;
   asked = asked_of pool member;
+  closing = closings_in (asks_closings table) pool code;
 }
 
 -- The edit that makes a change of an instruction.
@@ -117,21 +130,26 @@ abbrev pub mutant_by : Place → ℕ → Insn → Mutator → Option Change → 
 mutant_by place at insn mutator None = []
 mutant_by place at insn mutator (Some change) = mutant_of place at insn mutator change ∷ []
 
--- The mutants of an instruction, by these mutators in order.
-abbrev pub mutants_by : List Mutator → Place → ℕ → Insn → List Mutant
-mutants_by ms place at insn =
-    flat_map (λ mutator. mutant_by place at insn mutator (row mutator place.asked insn)) ms
+-- what a mutator makes of the instruction of a number
+abbrev pub row_at : Mutator → Place → ℕ → Insn → Option Change
+row_at mutator place at insn = row mutator place.asked (closes_at place.closing at) insn
+
+-- The mutants of an instruction.
+abbrev pub insn_mutants : List Mutator → Place → ℕ → Insn → List Mutant
+insn_mutants table place at insn =
+    flat_map (λ mutator. mutant_by place at insn mutator (row_at mutator place at insn)) table
 
 -- The mutants of instructions, the first of which has a number.
-abbrev pub mutants_from : Place → ℕ → List Insn → List Mutant
-mutants_from place at [] = []
-mutants_from place at (insn ∷ insns) =
-    mutants_by mutators place at insn ++ mutants_from place (at + 1) insns
+abbrev pub mutants_from : List Mutator → Place → ℕ → List Insn → List Mutant
+mutants_from table place at [] = []
+mutants_from table place at (insn ∷ insns) =
+    insn_mutants table place at insn ++ mutants_from table place (at + 1) insns
 
-abbrev pub code_mutants : List ℕ → List Const → ℕ → Member → Option Code → List Mutant
-code_mutants class pool number member None = []
-code_mutants class pool number member (Some code) =
-    mutants_from (place_in class pool number member code) 0 (out-Code code).insns
+abbrev pub code_mutants :
+    List Mutator → List ℕ → List Const → ℕ → Member → Option Code → List Mutant
+code_mutants table class pool number member None = []
+code_mutants table class pool number member (Some code) =
+    mutants_from table (place_in table class pool number member code) 0 (out-Code code).insns
 
 -- the flags of JVMS 4.1 and 4.6 whose methods aren't mutated: synthetic, and bridge on methods
 abbrev pub is_synthetic : ℕ → Bool
@@ -141,18 +159,23 @@ abbrev pub is_left_out : ℕ → Bool
 is_left_out flags = is_synthetic flags || not (bit_and flags 0x0040 == 0)
 
 -- The mutants of a method of a class of this name and constant pool.
-abbrev pub method_mutants : List ℕ → List Const → ℕ → Member → List Mutant
-method_mutants class pool number member =
+abbrev pub method_mutants : List Mutator → List ℕ → List Const → ℕ → Member → List Mutant
+method_mutants table class pool number member =
     if is_left_out member.flags then []
-    else code_mutants class pool number member (code_of member.attrs)
+    else code_mutants table class pool number member (code_of member.attrs)
 
 -- The mutants of methods, the first of which has a number.
-abbrev pub methods_mutants : List ℕ → List Const → ℕ → List Member → List Mutant
-methods_mutants class pool number [] = []
-methods_mutants class pool number (member ∷ members) =
-    method_mutants class pool number member ++ methods_mutants class pool (number + 1) members
+abbrev pub methods_mutants : List Mutator → List ℕ → List Const → ℕ → List Member → List Mutant
+methods_mutants table class pool number [] = []
+methods_mutants table class pool number (member ∷ members) =
+    method_mutants table class pool number member
+    ++ methods_mutants table class pool (number + 1) members
 
-abbrev pub class_mutants : Class → List Mutant
-class_mutants class =
+abbrev pub class_mutants_by : List Mutator → Class → List Mutant
+class_mutants_by table class =
     if is_synthetic class.flags then []
-    else methods_mutants (own_name class) class.pool 0 class.methods
+    else methods_mutants table (own_name class) class.pool 0 class.methods
+
+-- By the mutators that no option asks for.
+abbrev pub class_mutants : Class → List Mutant
+class_mutants class = class_mutants_by mutators class

@@ -1,4 +1,4 @@
--- The mutants of classes of a program (this project's own): classes in the order of their names'
+-- The mutants of classes of a program by a table (this project's own): classes in the order of their names'
 -- bytes in modified UTF-8.
 use Rattle.std.specs.Prelude.{◌≡◌, ℕ, List, [], fold, map, flat_map, filter_map, slice_get, Option, None, Some, option_and_then, option_copied}
 use Rattle.std.specs.Borrow.{Bor}
@@ -8,8 +8,10 @@ use Rattle.std.specs.Cmp.Lexicographic.{slice_cmp}
 use Rattle.class_model.specs.Text.{text}
 use Rattle.class_model.specs.declared.class.Class.{Class}
 use Rattle.class_model.specs.declared.class.ClassId.{ClassId}
+use Rattle.class_model.specs.declared.mutator.Mutator.{Mutator}
 use Rattle.class_link.specs.Info.{Info, file_in, own_name}
-use Rattle.mutator_ops.specs.Mutants.{class_mutants}
+use Rattle.mutator_ops.specs.Mutants.{class_mutants_by}
+use Rattle.mutator_ops.specs.Table.{mutators}
 use Rattle.mutator_ops.specs.declared.mutant.Mutant.{Mutant}
 
 -- The class file of a number, where it is that of one.
@@ -23,17 +25,22 @@ files_among p ids = filter_map (file_at p) ids
 abbrev pub in_order : {X : Type 0} → List (List ℕ × X) → List (List ℕ × X)
 in_order es = fold (λ kept e. insert_entry (slice_cmp nat_cmp) kept e.0 e.1) [] es
 
--- The mutants of a class, by its name in modified UTF-8.
-abbrev pub mutants_by_name : Class → List ℕ × List Mutant
-mutants_by_name class = (text (own_name class), class_mutants class)
+-- The mutants of a class by a table, with its name in modified UTF-8.
+abbrev pub mutants_by_name : List Mutator → Class → List ℕ × List Mutant
+mutants_by_name table class = (text (own_name class), class_mutants_by table class)
 
 -- The mutants of these classes.
-abbrev pub mutants_among : List Class → List Mutant
-mutants_among classes = flat_map (λ e. e.1) (in_order (map mutants_by_name classes))
+abbrev pub mutants_among : List Mutator → List Class → List Mutant
+mutants_among table classes =
+    flat_map (λ e. e.1) (in_order (map (mutants_by_name table) classes))
 
 -- The mutants of the class files of these numbers.
+abbrev pub mutants_by : List Mutator → List Info → List ClassId → List Mutant
+mutants_by table p ids = mutants_among table (files_among p ids)
+
+-- By the mutators that no option asks for.
 abbrev pub mutants : List Info → List ClassId → List Mutant
-mutants p ids = mutants_among (files_among p ids)
+mutants p ids = mutants_by mutators p ids
 
 -- ---- how they are gathered. No public clause cites this.
 

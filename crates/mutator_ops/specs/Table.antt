@@ -1,6 +1,7 @@
 -- The table of mutators (this project's own, in the manner of PIT): for each mutator the
--- instructions that it applies to, and what it makes of them.
-use Rattle.std.specs.Prelude.{ℕ, ◌==◌, ◌&&◌, ◌||◌, not, neg_ℤ, Bool, true, false, if◌then◌else◌, codes, List, [], ◌∷◌, Option, None, Some, is_none, option_and_then}
+-- instructions that it applies to, and what it makes of them. The last three of them are asked for
+-- by an option; what they make is this project's own.
+use Rattle.std.specs.Prelude.{ℕ, ◌==◌, ◌&&◌, ◌||◌, not, neg_ℤ, Bool, true, false, if◌then◌else◌, codes, List, [], ◌∷◌, ◌++◌, Option, None, Some, is_none, option_and_then}
 use Rattle.std.specs.Option.{option_map}
 use Rattle.class_model.specs.declared.constant.Const.{Const}
 use Rattle.class_model.specs.declared.instruction.Insn.{Insn}
@@ -11,14 +12,15 @@ use Rattle.class_model.specs.declared.kind.Kind.TheVariants as kind
 use Rattle.class_model.specs.declared.mutator.Mutator.{Mutator}
 use Rattle.class_model.specs.declared.mutator.Mutator.TheVariants as mutator
 use Rattle.program_rules.specs.Names.{same}
-use Rattle.mutator_ops.specs.Calls.{is_void_call}
+use Rattle.class_model.specs.declared.kind.MethodType.{MethodType}
+use Rattle.mutator_ops.specs.Calls.{called_type, is_void_call}
 use Rattle.mutator_ops.specs.declared.change.Change.{Change}
 use Rattle.mutator_ops.specs.declared.change.Change.TheVariants as change
 use Rattle.mutator_ops.specs.declared.change.Value.{Value}
 use Rattle.mutator_ops.specs.declared.change.Value.TheVariants as value
 use Rattle.mutator_ops.specs.declared.change.Callee.TheVariants as callee
 
--- What the table asks of a method beside its instructions.
+-- What the table asks of a method beside its instructions and which of them close a `new`.
 pub record Asked : Type 0 where
   -- the constant pool of its class
   pub pool : List Const
@@ -56,6 +58,14 @@ operations = (0x60, 0x64) ∷ (0x61, 0x65) ∷ (0x64, 0x60) ∷ (0x65, 0x61)
     ∷ (0x68, 0x6c) ∷ (0x69, 0x6d) ∷ (0x6c, 0x68) ∷ (0x6d, 0x69) ∷ (0x70, 0x68) ∷ (0x71, 0x69)
     ∷ (0x7e, 0x80) ∷ (0x7f, 0x81) ∷ (0x80, 0x7e) ∷ (0x81, 0x7f) ∷ (0x82, 0x7e) ∷ (0x83, 0x7f)
     ∷ (0x78, 0x7a) ∷ (0x79, 0x7b) ∷ (0x7a, 0x78) ∷ (0x7b, 0x79) ∷ (0x7c, 0x78) ∷ (0x7d, 0x79) ∷ []
+
+-- what takes the operands of a jump off the stack, pop (57) or pop2 (58): of one that compares an
+-- int with 0 (99 to 9e) or a reference with null (c6, c7), and of one that compares two ints (9f to
+-- a4) or two references (a5, a6)
+abbrev pub operand_pops : List (ℕ × ℕ)
+operand_pops = (0x99, 0x57) ∷ (0x9a, 0x57) ∷ (0x9b, 0x57) ∷ (0x9c, 0x57) ∷ (0x9d, 0x57)
+    ∷ (0x9e, 0x57) ∷ (0xc6, 0x57) ∷ (0xc7, 0x57) ∷ (0x9f, 0x58) ∷ (0xa0, 0x58) ∷ (0xa1, 0x58)
+    ∷ (0xa2, 0x58) ∷ (0xa3, 0x58) ∷ (0xa4, 0x58) ∷ (0xa5, 0x58) ∷ (0xa6, 0x58) ∷ []
 
 abbrev pub exchange : List (ℕ × ℕ) → Insn → Option Change
 exchange pairs insn = option_map change.Opcode (opcode_for pairs insn.op)
@@ -136,6 +146,17 @@ zero_return asked insn =
     if insn.op == 0xac then when (gives_number asked.gives) (change.Returns (value.Constant 0x03))
     else when (insn.op == 0xad && gives_long asked.gives) (change.Returns (value.Constant 0x09))
 
+-- ---- calls
+
+-- iconst_0 (03), lconst_0 (09) or aconst_null (01), by what a method gives
+abbrev pub zero_of : Kind → ℕ
+zero_of kind.Long = 0x09
+zero_of (kind.Ref name) = 0x01
+zero_of other = 0x03
+
+abbrev pub given_zero : MethodType → Option Change
+given_zero t = option_map (λ given. change.Gives (zero_of given)) t.ret
+
 -- ---- the table
 
 -- The mutators in the order in which those of one instruction are listed.
@@ -145,23 +166,33 @@ mutators = mutator.ConditionalsBoundary ∷ mutator.Increments ∷ mutator.Inver
     mutator.FalseReturns
     ∷ mutator.TrueReturns ∷ mutator.NullReturns ∷ mutator.PrimitiveReturns ∷ []
 
--- The row of each mutator: what it makes of an instruction, if it applies there.
-abbrev pub row : Mutator → Asked → Insn → Option Change
-row mutator.ConditionalsBoundary asked insn = exchange bounds insn
+-- those of an option stand behind them
+abbrev pub all_mutators : List Mutator
+all_mutators = mutators
+    ++ mutator.NonVoidMethodCalls ∷ mutator.ConstructorCalls ∷ mutator.RemoveConditionals ∷ []
+
+-- The row of each mutator: what it makes of an instruction, if it applies there, by whether that
+-- closes a `new`.
+abbrev pub row : Mutator → Asked → Bool → Insn → Option Change
+row mutator.ConditionalsBoundary asked closes insn = exchange bounds insn
 -- iinc
-row mutator.Increments asked insn = if insn.op == 0x84 then negated insn.arg else None
--- ineg, lneg
-row mutator.InvertNegs asked insn = when (insn.op == 0x74 || insn.op == 0x75) change.Nothing
-row mutator.Math asked insn = exchange operations insn
-row mutator.NegateConditionals asked insn = exchange opposites insn
-row mutator.VoidMethodCalls asked insn = when (is_void_call asked.pool insn) change.Pops
-row mutator.EmptyReturns asked insn = option_and_then empty_return (returned_class asked insn)
+row mutator.Increments asked closes insn = if insn.op == 0x84 then negated insn.arg else None
+-- ineg, lneg; nop
+row mutator.InvertNegs asked closes insn =
+    when (insn.op == 0x74 || insn.op == 0x75) (change.Alone 0x00)
+row mutator.Math asked closes insn = exchange operations insn
+row mutator.NegateConditionals asked closes insn = exchange opposites insn
+row mutator.VoidMethodCalls asked closes insn = when (is_void_call asked.pool insn) change.Pops
+row mutator.EmptyReturns asked closes insn =
+    option_and_then empty_return (returned_class asked insn)
 -- iconst_0 (03), iconst_1 (04)
-row mutator.FalseReturns asked insn = truth 0x03 asked insn
-row mutator.TrueReturns asked insn = truth 0x04 asked insn
-row mutator.NullReturns asked insn = option_and_then (null_return asked) (returned_class asked insn)
-row mutator.PrimitiveReturns asked insn = zero_return asked insn
--- these aren't among the mutators yet
-row mutator.NonVoidMethodCalls asked insn = None
-row mutator.ConstructorCalls asked insn = None
-row mutator.RemoveConditionals asked insn = None
+row mutator.FalseReturns asked closes insn = truth 0x03 asked insn
+row mutator.TrueReturns asked closes insn = truth 0x04 asked insn
+row mutator.NullReturns asked closes insn =
+    option_and_then (null_return asked) (returned_class asked insn)
+row mutator.PrimitiveReturns asked closes insn = zero_return asked insn
+row mutator.NonVoidMethodCalls asked closes insn =
+    option_and_then given_zero (called_type asked.pool insn)
+row mutator.ConstructorCalls asked closes insn = when closes change.Unmakes
+row mutator.RemoveConditionals asked closes insn =
+    option_map change.Alone (opcode_for operand_pops insn.op)

@@ -12,6 +12,8 @@ use std::alloc::Global;
 // JVMS 6.5.
 const NOP: u8 = 0x00;
 
+const ACONST_NULL: u8 = 0x01;
+
 const LCONST_0: u8 = 0x09;
 
 const POP: u8 = 0x57;
@@ -29,10 +31,15 @@ pub enum Change {
     Opcode(u8),
     /// An `iinc` of this local variable by this constant, which may pass the bounds of both forms.
     Increment(u16, i32),
-    /// `nop`.
-    Nothing,
+    /// An instruction that is this opcode alone.
+    Alone(u8),
     /// What a call takes is popped.
     Pops,
+    /// What a call takes is popped, and what this opcode pushes stands for its result.
+    Gives(u8),
+    /// What a constructor takes is popped, with the object that is kept behind its call. Null stands
+    /// for that.
+    Unmakes,
     /// Another value is given by the same return.
     Returns(Value),
 }
@@ -163,18 +170,45 @@ fn push_pops(with: &mut Seq<NewInsn>, args: &[Kind]) -> Result<(), Memory>
     Ok(())
 }
 
-// What a call takes is popped, or nothing is done.
+// What a call takes is popped.
 fn pops(alloc: Global, op: u8, args: &[Kind]) -> Result<Seq<NewInsn>, Memory>
-    ensures { IfOk result (λ with. with ≡ map bare (or_nop (pops op args.now))) }
+    ensures { IfOk result (λ with. with ≡ map bare (pops op args.now)) }
 {
     let mut with = Seq::new(alloc);
     push_pops(&mut with, args)?;
     if op != INVOKESTATIC {
         with.push(bare(POP))?;
     }
+    Ok(with)
+}
+
+// What a call takes is popped, or nothing is done.
+fn pops_or_nop(alloc: Global, op: u8, args: &[Kind]) -> Result<Seq<NewInsn>, Memory>
+    ensures { IfOk result (λ with. with ≡ map bare (or_nop (pops op args.now))) }
+{
+    let mut with = pops(alloc, op, args)?;
     if with.is_empty() {
         with.push(bare(NOP))?;
     }
+    Ok(with)
+}
+
+// What a call takes is popped, and a constant stands for its result.
+fn gives(alloc: Global, constant: u8, op: u8, args: &[Kind]) -> Result<Seq<NewInsn>, Memory>
+    ensures { IfOk result (λ with. with ≡ map bare (pops op args.now ++ constant ∷ [])) }
+{
+    let mut with = pops(alloc, op, args)?;
+    with.push(bare(constant))?;
+    Ok(with)
+}
+
+// What a constructor takes is popped, with the object that is kept; null stands for that.
+fn unmakes(alloc: Global, op: u8, args: &[Kind]) -> Result<Seq<NewInsn>, Memory>
+    ensures { IfOk result (λ with. with ≡ map bare (pops op args.now ++ 0x57 ∷ 0x01 ∷ [])) }
+{
+    let mut with = pops(alloc, op, args)?;
+    with.push(bare(POP))?;
+    with.push(bare(ACONST_NULL))?;
     Ok(with)
 }
 
@@ -222,8 +256,10 @@ pub fn new_insns(
             }),
         ),
         Change::Increment(local, by) => only(alloc, NewInsn::Inc(local, by)),
-        Change::Nothing => only(alloc, bare(NOP)),
-        Change::Pops => pops(alloc, insn.op, pool.called_args(insn)),
+        Change::Alone(op) => only(alloc, bare(op)),
+        Change::Pops => pops_or_nop(alloc, insn.op, pool.called_args(insn)),
+        Change::Gives(constant) => gives(alloc, constant, insn.op, pool.called_args(insn)),
+        Change::Unmakes => unmakes(alloc, insn.op, pool.called_args(insn)),
         Change::Returns(value) => returns(alloc, value, insn),
     }
 }

@@ -3,7 +3,7 @@
 
 ghost use Rattle.mutator_ops.specs.Laws.{ListedExactly, ListedInOrder, ListedOnce, AmongExactly, AmongInOrder, AmongOnce};
 
-/// A mutant is in the list of a class exactly where the row of its mutator applies.
+/// A mutant is in the list of a class by a table exactly where the row of its mutator applies.
 pub fn listed_exactly()
     ensures { ListedExactly }
 {}

@@ -1,14 +1,13 @@
 //! The mutants of a class.
 
 ghost use Rattle.std.specs.Prelude.{◌≡◌, ◌++◌, IfOk, OnOk};
-ghost use Rattle.mutator_ops.specs.Mutants.{mutant_by, mutants_by, mutants_from, is_synthetic, is_left_out, method_mutants, methods_mutants, class_mutants};
-ghost use Rattle.mutator_ops.specs.Table.{row, mutators};
+ghost use Rattle.mutator_ops.specs.Mutants.{mutant_by, row_at, insn_mutants, mutants_from, is_synthetic, is_left_out, method_mutants, methods_mutants, class_mutants_by, class_mutants};
 
 use crate::mutant::Mutant;
 use crate::parts::code_of;
-use crate::place::Place;
+use crate::place::{Place, asks_closings};
 use crate::pool::Pool;
-use crate::table::{mutators, row};
+use crate::table::mutators;
 use class_link::own_name;
 use class_model::{Class, Insn, Member, Memory, Mutator, Name, Seq};
 use std::alloc::Global;
@@ -24,25 +23,25 @@ fn push_mutant(
 ) -> Result<(), Memory>
     ensures { OnOk result (
         mutants.new ≡ mutants.old ++
-        mutant_by place.now at insn.now mutator (row mutator place.now.asked insn.now)) }
+        mutant_by place.now at insn.now mutator (row_at mutator place.now at insn.now)) }
 {
-    let Some(change) = row(mutator, place.asked(), insn) else {
+    let Some(change) = place.row_at(mutator, at, insn) else {
         return Ok(());
     };
     mutants.push(place.mutant_of(alloc, at, insn, mutator, change)?)
 }
 
-// The mutants of an instruction by these mutators.
+// The mutants of an instruction by a table.
 fn push_mutants(
     alloc: Global,
     mutants: &mut Seq<Mutant>,
+    table: &[Mutator],
     place: &Place,
     at: u32,
     insn: &Insn,
-    table: &[Mutator],
 ) -> Result<(), Memory>
     ensures { OnOk result (
-        mutants.new ≡ mutants.old ++ mutants_by table.now place.now at insn.now) }
+        mutants.new ≡ mutants.old ++ insn_mutants table.now place.now at insn.now) }
 {
     for mutator in table {
         push_mutant(alloc, mutants, place, at, insn, *mutator)?;
@@ -54,17 +53,18 @@ fn push_mutants(
 fn push_code_mutants(
     alloc: Global,
     mutants: &mut Seq<Mutant>,
+    table: &[Mutator],
     place: &Place,
     insns: &[Insn],
 ) -> Result<(), Memory>
-    ensures { OnOk result (mutants.new ≡ mutants.old ++ mutants_from place.now 0 insns.now) }
+    ensures { OnOk result (
+        mutants.new ≡ mutants.old ++ mutants_from table.now place.now 0 insns.now) }
 {
     let Ok(count) = u32::try_from(insns.len()) else {
         return Err(Memory);
     };
-    let table = mutators();
     for at in 0..count {
-        push_mutants(alloc, mutants, place, at, &insns[at as usize], &table)?;
+        push_mutants(alloc, mutants, table, place, at, &insns[at as usize])?;
     }
     Ok(())
 }
@@ -86,13 +86,15 @@ pub fn is_left_out(flags: u16) -> bool
 fn push_method_mutants(
     alloc: Global,
     mutants: &mut Seq<Mutant>,
+    table: &[Mutator],
     class: &Name,
     pool: &Pool,
     number: u32,
     member: &Member,
 ) -> Result<(), Memory>
     ensures { OnOk result (
-        mutants.new ≡ mutants.old ++ method_mutants class.now pool.now number member.now) }
+        mutants.new ≡
+        mutants.old ++ method_mutants table.now class.now pool.now number member.now) }
 {
     if is_left_out(member.flags) {
         return Ok(());
@@ -100,20 +102,22 @@ fn push_method_mutants(
     let Some(code) = code_of(member.attrs.as_slice()) else {
         return Ok(());
     };
-    let place = Place::new(alloc, class, pool, number, member, code)?;
-    push_code_mutants(alloc, mutants, &place, code.insns.as_slice())
+    let place = Place::new(alloc, table, class, pool, number, member, code)?;
+    push_code_mutants(alloc, mutants, table, &place, code.insns.as_slice())
 }
 
 // A list of 2^32 methods counts as want of memory.
 fn push_methods_mutants(
     alloc: Global,
     mutants: &mut Seq<Mutant>,
+    table: &[Mutator],
     class: &Name,
     pool: &Pool,
     methods: &[Member],
 ) -> Result<(), Memory>
     ensures { OnOk result (
-        mutants.new ≡ mutants.old ++ methods_mutants class.now pool.now 0 methods.now) }
+        mutants.new ≡
+        mutants.old ++ methods_mutants table.now class.now pool.now 0 methods.now) }
 {
     let Ok(count) = u32::try_from(methods.len()) else {
         return Err(Memory);
@@ -122,6 +126,7 @@ fn push_methods_mutants(
         push_method_mutants(
             alloc,
             mutants,
+            table,
             class,
             pool,
             number,
@@ -131,17 +136,35 @@ fn push_methods_mutants(
     Ok(())
 }
 
-/// The mutants of a class: methods in file order, instructions by number, mutators in the order of
-/// the table. Synthetic and bridge methods and methods of synthetic classes have none.
-pub fn class_mutants(alloc: Global, class: &Class) -> Result<Seq<Mutant>, Memory>
-    ensures { IfOk result (λ mutants. mutants ≡ class_mutants class.now) }
+/// The mutants of a class by a table: methods in file order, instructions by number, mutators in the
+/// order of the table. Synthetic and bridge methods and methods of synthetic classes have none.
+pub fn class_mutants_by(
+    alloc: Global,
+    table: &[Mutator],
+    class: &Class,
+) -> Result<Seq<Mutant>, Memory>
+    ensures { IfOk result (λ mutants. mutants ≡ class_mutants_by table.now class.now) }
 {
     let mut mutants = Seq::new(alloc);
     if is_synthetic(class.flags) {
         return Ok(mutants);
     }
     let name = own_name(alloc, class)?;
-    let pool = Pool::new(alloc, class.pool.as_slice())?;
-    push_methods_mutants(alloc, &mut mutants, &name, &pool, class.methods.as_slice())?;
+    let pool = Pool::with_numbers(alloc, class.pool.as_slice(), asks_closings(table))?;
+    push_methods_mutants(
+        alloc,
+        &mut mutants,
+        table,
+        &name,
+        &pool,
+        class.methods.as_slice(),
+    )?;
     Ok(mutants)
+}
+
+/// The mutants of a class by the mutators that no option asks for.
+pub fn class_mutants(alloc: Global, class: &Class) -> Result<Seq<Mutant>, Memory>
+    ensures { IfOk result (λ mutants. mutants ≡ class_mutants class.now) }
+{
+    class_mutants_by(alloc, &mutators(), class)
 }

@@ -1,17 +1,32 @@
 //! Where the mutants of a method stand.
 
 ghost use Rattle.std.specs.Prelude.{◌≡◌, IfOk};
-ghost use Rattle.mutator_ops.specs.Mutants.{place_in, edit_of, mutant_of};
+ghost use Rattle.mutator_ops.specs.Mutants.{is_of_constructors, asks_closings, place_in, row_at, edit_of, mutant_of};
 
 use crate::asked::Asked;
 use crate::change::{Change, more_words, new_insns};
 use crate::mutant::Mutant;
+use crate::openings::{closes_at, closings_in};
 use crate::parts::line_rows;
 use crate::pool::Pool;
+use crate::table::row;
 use class_link::{LineTable, text_named};
-use class_model::{Code, Edit, Insn, Member, Memory, Mutator, Name};
+use class_model::{Code, Edit, Insn, Member, Memory, Mutator, Name, Seq};
 use std::alloc::Global;
 use std::marker::Model;
+
+fn is_of_constructors(mutator: Mutator) -> bool
+    ensures { result ≡ is_of_constructors mutator }
+{
+    matches!(mutator, Mutator::ConstructorCalls)
+}
+
+/// The mutators of a table ask which instructions close a `new`.
+pub fn asks_closings(table: &[Mutator]) -> bool
+    ensures { result ≡ asks_closings table.now }
+{
+    table.iter().any(|mutator| is_of_constructors(*mutator))
+}
 
 /// A method with code.
 #[derive(Drop)]
@@ -21,6 +36,7 @@ pub struct Place<'a> {
     number: u32,
     lines: LineTable,
     asked: Asked<'a>,
+    closing: Seq<bool>,
 }
 
 impl<'a> Model for Place<'a> {
@@ -38,21 +54,23 @@ impl<'a> Model for Place<'a> {
       number = p.number;
       lines = map line_of p.lines;
       asked = p.asked;
+      closing = p.closing;
     } };
 }
 
 impl<'a> Place<'a> {
-    /// The method of this number in a class of this name.
+    /// The method of this number in a class of this name, for the mutators of a table.
     pub fn new(
         alloc: Global,
+        table: &[Mutator],
         class: &'a Name,
         pool: &'a Pool<'a>,
         number: u32,
         member: &'a Member,
         code: &Code,
     ) -> Result<Place<'a>, Memory>
-        ensures { IfOk result (λ p.
-            p ≡ place_in class.entry.now pool.entry.now number member.entry.now code.now) }
+        ensures { IfOk result (λ p. p ≡
+            place_in table.now class.entry.now pool.entry.now number member.entry.now code.now) }
     {
         let rows = line_rows(alloc, code.attrs.as_slice())?;
         Ok(Place {
@@ -61,14 +79,16 @@ impl<'a> Place<'a> {
             number,
             lines: LineTable::new(alloc, rows, code.insns.len())?,
             asked: Asked::new(pool, member),
+            closing: closings_in(alloc, asks_closings(table), pool, code)?,
         })
     }
 
-    /// What the table asks of the method.
-    pub fn asked(&self) -> &Asked<'a>
-        ensures { result.now ≡ self.now.asked }
+    /// What a mutator makes of the instruction of a number.
+    pub fn row_at(&self, mutator: Mutator, at: u32, insn: &Insn) -> Option<Change>
+        ensures { result ≡ row_at mutator self.now at insn.now }
     {
-        &self.asked
+        let closes = closes_at(self.closing.as_slice(), at as usize);
+        row(mutator, &self.asked, closes, insn)
     }
 
     // The edit that makes a change of an instruction.

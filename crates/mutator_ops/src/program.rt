@@ -5,12 +5,13 @@ ghost use Rattle.std.specs.Io.Iter.{u64_saturate};
 ghost use Rattle.class_model.specs.Text.{text};
 ghost use Rattle.class_link.specs.Info.{own_name};
 ghost use Rattle.mutator_ops.specs.Counts.{count_by_name};
-ghost use Rattle.mutator_ops.specs.Programs.{mutants_by_name, among_by_name, mutants, Adds};
+ghost use Rattle.mutator_ops.specs.Programs.{mutants_by_name, among_by_name, mutants_by, mutants, Adds};
 
-use crate::counting::count_mutants;
-use crate::listing::class_mutants;
+use crate::counting::count_mutants_by;
+use crate::listing::class_mutants_by;
 use crate::mutant::Mutant;
-use class_model::{Bytes, Class, ClassId, Memory, Name, Seq, write_text};
+use crate::table::mutators;
+use class_model::{Bytes, Class, ClassId, Memory, Mutator, Name, Seq, write_text};
 use class_table::Program;
 use mt_pool::class_name_of;
 use std::alloc::Global;
@@ -27,22 +28,31 @@ fn name_text(alloc: Global, class: &Class) -> Result<Bytes, Memory>
 }
 
 // The mutants of a class, by its name.
-fn mutants_by_name(alloc: Global, class: &Class) -> Result<(Bytes, Seq<Mutant>), Memory>
-    ensures { IfOk result (λ found. found ≡ mutants_by_name class.now) }
+fn mutants_by_name(
+    alloc: Global,
+    table: &[Mutator],
+    class: &Class,
+) -> Result<(Bytes, Seq<Mutant>), Memory>
+    ensures { IfOk result (λ found. found ≡ mutants_by_name table.now class.now) }
 {
-    Ok((name_text(alloc, class)?, class_mutants(alloc, class)?))
+    Ok((
+        name_text(alloc, class)?,
+        class_mutants_by(alloc, table, class)?,
+    ))
 }
 
 // The mutants of one more class, if it is one.
 fn insert_class(
     alloc: Global,
     found: &mut BTreeMap<Bytes, Seq<Mutant>>,
+    table: &[Mutator],
     class: Option<&Class>,
 ) -> Result<(), Memory>
-    ensures { OnOk result (Adds mutants_by_name found.old.entries found.new.entries class.entry) }
+    ensures { OnOk result (
+        Adds (mutants_by_name table.now) found.old.entries found.new.entries class.entry) }
 {
     if let Some(class) = class {
-        let (name, mutants) = mutants_by_name(alloc, class)?;
+        let (name, mutants) = mutants_by_name(alloc, table, class)?;
         found.insert(name, mutants)?;
     }
     Ok(())
@@ -51,14 +61,16 @@ fn insert_class(
 #[tactic(auto, using(crate::proofs::ProgramLaws::one_more))]
 fn all_by_name(
     alloc: Global,
+    table: &[Mutator],
     p: &Program,
     ids: &[ClassId],
 ) -> Result<BTreeMap<Bytes, Seq<Mutant>>, Memory>
-    ensures { IfOk result (λ found. found.entries ≡ among_by_name mutants_by_name p.now ids.now) }
+    ensures { IfOk result (λ found.
+        found.entries ≡ among_by_name (mutants_by_name table.now) p.now ids.now) }
 {
     let mut found = BTreeMap::new(alloc);
     for id in ids {
-        insert_class(alloc, &mut found, p.file_class(*id))?;
+        insert_class(alloc, &mut found, table, p.file_class(*id))?;
     }
     Ok(found)
 }
@@ -75,26 +87,40 @@ fn joined(alloc: Global, mut by_name: BTreeMap<Bytes, Seq<Mutant>>) -> Result<Se
     Ok(Seq::from_vec(all))
 }
 
-/// The mutants of the class files of these numbers, by the classes' names in the order of their
-/// bytes.
+/// The mutants of the class files of these numbers by a table, by the classes' names in the order of
+/// their bytes.
+pub fn mutants_by(
+    alloc: Global,
+    table: &[Mutator],
+    p: &Program,
+    from: &Seq<ClassId>,
+) -> Result<Seq<Mutant>, Memory>
+    ensures { IfOk result (λ all. all ≡ mutants_by table.now p.now from.now) }
+{
+    let by_name = all_by_name(alloc, table, p, from.as_slice())?;
+    joined(alloc, by_name)
+}
+
+/// The same by the mutators that no option asks for.
 pub fn mutants(alloc: Global, p: &Program, from: &Seq<ClassId>) -> Result<Seq<Mutant>, Memory>
     ensures { IfOk result (λ all. all ≡ mutants p.now from.now) }
 {
-    let by_name = all_by_name(alloc, p, from.as_slice())?;
-    joined(alloc, by_name)
+    mutants_by(alloc, &mutators(), p, from)
 }
 
 // How many mutants one more class has, if it is one.
 fn insert_count(
     alloc: Global,
     counts: &mut BTreeMap<Bytes, u64>,
+    table: &[Mutator],
     class: Option<&Class>,
 ) -> Result<(), Memory>
-    ensures { OnOk result (Adds count_by_name counts.old.entries counts.new.entries class.entry) }
+    ensures { OnOk result (
+        Adds (count_by_name table.now) counts.old.entries counts.new.entries class.entry) }
 {
     if let Some(class) = class {
         let name = name_text(alloc, class)?;
-        let count = count_mutants(alloc, class)?;
+        let count = count_mutants_by(alloc, table, class)?;
         counts.insert(name, count)?;
     }
     Ok(())
@@ -103,14 +129,16 @@ fn insert_count(
 #[tactic(auto, using(crate::proofs::ProgramLaws::one_more_count))]
 fn counts_by_name(
     alloc: Global,
+    table: &[Mutator],
     p: &Program,
     ids: &[ClassId],
 ) -> Result<BTreeMap<Bytes, u64>, Memory>
-    ensures { IfOk result (λ counts. counts.entries ≡ among_by_name count_by_name p.now ids.now) }
+    ensures { IfOk result (λ counts.
+        counts.entries ≡ among_by_name (count_by_name table.now) p.now ids.now) }
 {
     let mut counts = BTreeMap::new(alloc);
     for id in ids {
-        insert_count(alloc, &mut counts, p.file_class(*id))?;
+        insert_count(alloc, &mut counts, table, p.file_class(*id))?;
     }
     Ok(counts)
 }
@@ -126,11 +154,23 @@ fn sum_of(mut counts: BTreeMap<Bytes, u64>) -> u64
     sum
 }
 
-/// How many mutants the class files of these numbers have. None is made, and the memory that is
-/// taken grows with the classes alone. The count stays at 2^64 - 1.
+/// How many mutants the class files of these numbers have by a table. None is made, and the memory
+/// that is taken grows with the classes alone. The count stays at 2^64 - 1.
+pub fn count_all_by(
+    alloc: Global,
+    table: &[Mutator],
+    p: &Program,
+    from: &Seq<ClassId>,
+) -> Result<u64, Memory>
+    ensures { IfOk result (λ n. n ≡ u64_saturate (length (mutants_by table.now p.now from.now))) }
+{
+    let counts = counts_by_name(alloc, table, p, from.as_slice())?;
+    Ok(sum_of(counts))
+}
+
+/// The same by the mutators that no option asks for.
 pub fn count_all(alloc: Global, p: &Program, from: &Seq<ClassId>) -> Result<u64, Memory>
     ensures { IfOk result (λ n. n ≡ u64_saturate (length (mutants p.now from.now))) }
 {
-    let counts = counts_by_name(alloc, p, from.as_slice())?;
-    Ok(sum_of(counts))
+    count_all_by(alloc, &mutators(), p, from)
 }

@@ -2,14 +2,18 @@
 //! of them.
 
 ghost use Rattle.std.specs.Prelude.{◌≡◌, option_copied};
-ghost use Rattle.mutator_ops.specs.Table.{opcode_for, bounds, opposites, operations, exchange, negated, gives_boolean, gives_number, gives_long, class_given, returned_class, empty_value, is_boolean_class, when, empty_return, boxed_truth, truth, null_return, zero_return, mutators, row};
+ghost use Rattle.std.specs.Option.{option_map};
+ghost use Rattle.mutator_ops.specs.declared.change.Change.TheVariants.{Alone};
+ghost use Rattle.mutator_ops.specs.Table.{opcode_for, bounds, opposites, operations, operand_pops, exchange, negated, gives_boolean, gives_number, gives_long, class_given, returned_class, empty_value, is_boolean_class, when, empty_return, boxed_truth, truth, null_return, zero_return, zero_of, given_zero, mutators, row};
 
 use crate::asked::Asked;
 use crate::change::{Callee, Change, Value};
 use class_model::names::is_text;
-use class_model::{Arg, Insn, Kind, Mutator, Name};
+use class_model::{Arg, Insn, Kind, MethodType, Mutator, Name};
 
 // JVMS 6.5.
+const NOP: u8 = 0x00;
+
 const ACONST_NULL: u8 = 0x01;
 
 const ICONST_0: u8 = 0x03;
@@ -90,7 +94,28 @@ const OPERATIONS: [(u8, u8); 22] = [
     (0x7d, 0x79),
 ];
 
-// What an opcode is exchanged for.
+/// What takes the operands of a jump off the stack, `pop` or `pop2`: of one that compares an int
+/// with 0 or a reference with null, and of one that compares two ints or two references.
+const OPERAND_POPS: [(u8, u8); 16] = [
+    (0x99, 0x57),
+    (0x9a, 0x57),
+    (0x9b, 0x57),
+    (0x9c, 0x57),
+    (0x9d, 0x57),
+    (0x9e, 0x57),
+    (0xc6, 0x57),
+    (0xc7, 0x57),
+    (0x9f, 0x58),
+    (0xa0, 0x58),
+    (0xa1, 0x58),
+    (0xa2, 0x58),
+    (0xa3, 0x58),
+    (0xa4, 0x58),
+    (0xa5, 0x58),
+    (0xa6, 0x58),
+];
+
+// The opcode that stands for one.
 fn opcode_for(pairs: &[(u8, u8)], op: u8) -> Option<u8>
     ensures { result ≡ opcode_for pairs.now op }
 {
@@ -254,7 +279,32 @@ fn zero_return(asked: &Asked, insn: &Insn) -> Option<Change>
     )
 }
 
-/// The mutators in the order in which those of one instruction are listed.
+// 0 or null, by what a method gives.
+fn zero_of(given: &Kind) -> u8
+    ensures { result ≡ zero_of given.now }
+{
+    match given {
+        Kind::Long => LCONST_0,
+        Kind::Ref(_) => ACONST_NULL,
+        _ => ICONST_0,
+    }
+}
+
+// 0 or null in place of a call's result, where it has one.
+fn given_zero(t: &MethodType) -> Option<Change>
+    ensures { result ≡ given_zero t.now }
+{
+    Some(Change::Gives(zero_of(t.ret.as_ref()?)))
+}
+
+// The operands of a jump are popped.
+fn popped(insn: &Insn) -> Option<Change>
+    ensures { result ≡ option_map Alone (opcode_for operand_pops insn.now.op) }
+{
+    Some(Change::Alone(opcode_for(&OPERAND_POPS, insn.op)?))
+}
+
+/// The mutators that no option asks for, in the order in which those of one instruction are listed.
 pub fn mutators() -> [Mutator; 11]
     ensures { result ≡ mutators }
 {
@@ -273,9 +323,9 @@ pub fn mutators() -> [Mutator; 11]
     ]
 }
 
-/// What a mutator makes of an instruction, if it applies there.
-pub fn row(mutator: Mutator, asked: &Asked, insn: &Insn) -> Option<Change>
-    ensures { result ≡ row mutator asked.now insn.now }
+/// What a mutator makes of an instruction, if it applies there, by whether that closes a `new`.
+pub fn row(mutator: Mutator, asked: &Asked, closes: bool, insn: &Insn) -> Option<Change>
+    ensures { result ≡ row mutator asked.now closes insn.now }
 {
     match mutator {
         Mutator::ConditionalsBoundary => exchange(&BOUNDS, insn),
@@ -286,7 +336,7 @@ pub fn row(mutator: Mutator, asked: &Asked, insn: &Insn) -> Option<Change>
                 None
             }
         }
-        Mutator::InvertNegs => when(insn.op == INEG || insn.op == LNEG, Change::Nothing),
+        Mutator::InvertNegs => when(insn.op == INEG || insn.op == LNEG, Change::Alone(NOP)),
         Mutator::Math => exchange(&OPERATIONS, insn),
         Mutator::NegateConditionals => exchange(&OPPOSITES, insn),
         Mutator::VoidMethodCalls => when(asked.is_void_call(insn), Change::Pops),
@@ -295,7 +345,8 @@ pub fn row(mutator: Mutator, asked: &Asked, insn: &Insn) -> Option<Change>
         Mutator::TrueReturns => truth(ICONST_1, asked, insn),
         Mutator::NullReturns => null_return(asked, returned_class(asked, insn)?),
         Mutator::PrimitiveReturns => zero_return(asked, insn),
-        Mutator::NonVoidMethodCalls | Mutator::ConstructorCalls | Mutator::RemoveConditionals =>
-            None,
+        Mutator::NonVoidMethodCalls => given_zero(asked.pool().called_type(insn)?),
+        Mutator::ConstructorCalls => when(closes, Change::Unmakes),
+        Mutator::RemoveConditionals => popped(insn),
     }
 }

@@ -1,7 +1,7 @@
-use Rattle.std.proofs.Common.{◌≡◌, take}
+use Rattle.std.proofs.Common.{◌≡◌, ◌+◌, ◌<◌, ◌^◌, drop}
 use Rattle.std.specs.Io.Iter.{u64_saturate}
-use Rattle.mutator_ops.specs.Counts.{rows_in}
+use Rattle.mutator_ops.specs.Counts.{rows_from}
 use Rattle.mutator_ops.proofs.counting.rows_in.Given as goal
 
-abbrev pub invariant-loop-insn : goal.invariant-loop-insn
-invariant-loop-insn l = l.count ≡ u64_saturate (rows_in l.asked (take l.insn-index l.insns))
+abbrev pub invariant-loop-at : goal.invariant-loop-at
+invariant-loop-at l = u64_saturate (l.count + rows_from l.table l.asked l.closing l.at (drop l.at l.insns)) ≡ u64_saturate (rows_from l.table l.asked l.closing 0 l.insns)

@@ -3,4 +3,4 @@ use Rattle.mutator_ops.specs.Programs.{among_by_name, mutants_by_name}
 use Rattle.mutator_ops.proofs.program.all_by_name.Given as goal
 
 abbrev pub invariant-loop-id : goal.invariant-loop-id
-invariant-loop-id l = l.found.entries ≡ among_by_name mutants_by_name l.p (take l.id-index l.ids)
+invariant-loop-id l = l.found.entries ≡ among_by_name (mutants_by_name l.table) l.p (take l.id-index l.ids)
