@@ -23,16 +23,16 @@ use Rattle.mt_insn.specs.Opcode.{form_of}
 use Rattle.mt_insn.specs.declared.opcode.Form.{Form}
 use Rattle.mt_insn.specs.declared.opcode.Form.TheVariants as form
 use Rattle.program_rules.specs.Names.{same}
-use Rattle.mutator_ops.specs.Calls.{is_void_call, called_args}
+use Rattle.mutator_ops.specs.Calls.{is_void_call, called_args, called_type}
 use Rattle.mutator_ops.specs.Changes.{callee_class, callee_name, callee_desc, bare, call_of, value_insns, pop_of, pops, or_nop, pop_before, new_insns}
-use Rattle.mutator_ops.specs.Table.{Asked, when, opcode_for, bounds, opposites, operations, exchange, negated, gives_boolean, gives_number, gives_long, empty_value, is_boolean_class, returned_class, empty_return, boxed_truth, truth, null_return, zero_return, row}
+use Rattle.mutator_ops.specs.Table.{Asked, when, opcode_for, bounds, opposites, operations, operand_pops, zero_of, given_zero, exchange, negated, gives_boolean, gives_number, gives_long, empty_value, is_boolean_class, returned_class, empty_return, boxed_truth, truth, null_return, zero_return, row}
 use Rattle.mutator_ops.specs.declared.change.Change.{Change}
 use Rattle.mutator_ops.specs.declared.change.Change.TheVariants as change
 use Rattle.mutator_ops.specs.declared.change.Value.{Value}
 use Rattle.mutator_ops.specs.declared.change.Value.TheVariants as value
 use Rattle.mutator_ops.specs.declared.change.Callee.{Callee}
 use Rattle.mutator_ops.specs.declared.change.Callee.TheVariants as callee
-use Rattle.mutant_apply.specs.Fitting.{StandsFor, IsCall, CanReplace, FitsInsn}
+use Rattle.mutant_apply.specs.Fitting.{StandsFor, IsCall, CanReplace, FitsInsn, has_count, makes_no_arrays, puts_no_arrays}
 use Rattle.mutant_apply.proofs.Lists.{all_map, all_append}
 
 -- ---- opcodes
@@ -89,8 +89,10 @@ right_value (value.Boxed op callee) = is_bare op
 pub IsRight : Insn → Change → Type 0
 IsRight insn (change.Opcode op) = is_exchange op insn.op ≡ true
 IsRight insn (change.Increment local by) = local < 2 ^ 16
-IsRight insn change.Nothing = Unit {0}
+IsRight insn (change.Alone op) = is_bare op ≡ true
 IsRight insn change.Pops = Unit {0}
+IsRight insn (change.Gives op) = is_bare op ≡ true
+IsRight insn change.Unmakes = Unit {0}
 IsRight insn (change.Returns v) = (is_plain_form (form_of insn.op) ≡ true) × (right_value v ≡ true)
 
 -- ---- the rows
@@ -143,7 +145,7 @@ module _ (insn : Insn) where
   negated_case (arg.Inc local by) c q e = let same : change.Increment local (neg_ℤ by) ≡ c = cc in subst (IsRight insn) same (local_case insn.wide local by q)
   negated_case other c q e = absurd cc
 
-  increment_right : (c : Change) → HasForm insn → row mutator.Increments (record { pool = []; gives = None; is_not_null = false }) insn ≡ Some c → IsRight insn c
+  increment_right : (c : Change) → HasForm insn → row mutator.Increments (record { pool = []; gives = None; is_not_null = false }) false insn ≡ Some c → IsRight insn c
   increment_right c form e =
       let k = then_other (insn.op == 0x84) (negated insn.arg) c e in
       negated_case insn.arg c (subst (λ (n : ℕ). IsFormedArg (form_of n) insn.wide insn.arg) (eqb-true insn.op 0x84 k.0) form.1) k.1
@@ -216,27 +218,58 @@ module _ (insn : Insn) where
   unfolding are_exchanges is_exchange are_alike
   operations_right = refl
 
-  pub row_right : (by : Mutator) (asked : Asked) (c : Change) → HasForm insn → row by asked insn ≡ Some c → IsRight insn c
+  -- ---- what is put there alone
+
+  are_bare : List (ℕ × ℕ) → Bool
+  are_bare [] = true
+  are_bare (pair ∷ pairs) = is_bare pair.1 && are_bare pairs
+
+  popped_case : (pair : ℕ × ℕ) (pairs : List (ℕ × ℕ)) (new : ℕ) (b : Bool) → are_bare (pair ∷ pairs) ≡ true → (are_bare pairs ≡ true → opcode_for pairs insn.op ≡ Some new → is_bare new ≡ true)
+      → (if b then Some pair.1 else opcode_for pairs insn.op) ≡ Some new → is_bare new ≡ true
+  unfolding are_bare
+  popped_case pair pairs new true right later e = let same : pair.1 ≡ new = cc in subst (λ (n : ℕ). is_bare n ≡ true) same (and_parts (is_bare pair.1) (are_bare pairs) right).0
+  popped_case pair pairs new false right later e = later (and_parts (is_bare pair.1) (are_bare pairs) right).1 e
+
+  popped_right : (pairs : List (ℕ × ℕ)) (new : ℕ) → are_bare pairs ≡ true → opcode_for pairs insn.op ≡ Some new → is_bare new ≡ true
+  popped_right [] new right e = absurd cc
+  popped_right (pair ∷ pairs) new right e = popped_case pair pairs new (insn.op == pair.0) right (popped_right pairs new) e
+
+  operand_pops_right : are_bare operand_pops ≡ true
+  unfolding are_bare is_bare is_plain_form
+  operand_pops_right = refl
+
+  zero_bare : (given : Kind) → is_bare (zero_of given) ≡ true
+  unfolding is_bare is_plain_form
+  zero_bare kind.Long = refl
+  zero_bare (kind.Ref name) = refl
+  zero_bare other = refl
+
+  pub row_right : (by : Mutator) (asked : Asked) (closes : Bool) (c : Change) → HasForm insn → row by asked closes insn ≡ Some c → IsRight insn c
   unfolding IsRight right_value is_bare is_plain_form
-  row_right mutator.ConditionalsBoundary asked c form e = exchange_right bounds c bounds_right e
-  row_right mutator.Increments asked c form e = increment_right c form e
-  row_right mutator.InvertNegs asked c form e = when_right (insn.op == 0x74 || insn.op == 0x75) change.Nothing c tt e
-  row_right mutator.Math asked c form e = exchange_right operations c operations_right e
-  row_right mutator.NegateConditionals asked c form e = exchange_right opposites c opposites_right e
-  row_right mutator.VoidMethodCalls asked c form e = when_right (is_void_call asked.pool insn) change.Pops c tt e
-  row_right mutator.EmptyReturns asked c form e =
+  row_right mutator.ConditionalsBoundary asked closes c form e = exchange_right bounds c bounds_right e
+  row_right mutator.Increments asked closes c form e = increment_right c form e
+  row_right mutator.InvertNegs asked closes c form e = when_right (insn.op == 0x74 || insn.op == 0x75) (change.Alone 0x00) c refl e
+  row_right mutator.Math asked closes c form e = exchange_right operations c operations_right e
+  row_right mutator.NegateConditionals asked closes c form e = exchange_right opposites c opposites_right e
+  row_right mutator.VoidMethodCalls asked closes c form e = when_right (is_void_call asked.pool insn) change.Pops c tt e
+  row_right mutator.EmptyReturns asked closes c form e =
       let k = behind empty_return (returned_class asked insn) c e in
       let v = under change.Returns (empty_value k.0) c k.2 in
       subst (IsRight insn) v.2 (returns_right v.0 (reference_plain asked k.0 k.1) (empty_right k.0 v.0 v.1))
-  row_right mutator.FalseReturns asked c form e = truth_case 0x03 asked c (insn.op == 0xac) refl refl e
-  row_right mutator.TrueReturns asked c form e = truth_case 0x04 asked c (insn.op == 0xac) refl refl e
-  row_right mutator.NullReturns asked c form e =
+  row_right mutator.FalseReturns asked closes c form e = truth_case 0x03 asked c (insn.op == 0xac) refl refl e
+  row_right mutator.TrueReturns asked closes c form e = truth_case 0x04 asked c (insn.op == 0xac) refl refl e
+  row_right mutator.NullReturns asked closes c form e =
       let k = behind (null_return asked) (returned_class asked insn) c e in
       when_right (not asked.is_not_null && is_none (empty_value k.0) && not (is_boolean_class k.0)) (change.Returns (value.Constant 0x01)) c (returns_right (value.Constant 0x01) (reference_plain asked k.0 k.1) refl) k.2
-  row_right mutator.PrimitiveReturns asked c form e = zero_case asked c (insn.op == 0xac) refl e
-  row_right mutator.NonVoidMethodCalls asked c form e = absurd cc
-  row_right mutator.ConstructorCalls asked c form e = absurd cc
-  row_right mutator.RemoveConditionals asked c form e = absurd cc
+  row_right mutator.PrimitiveReturns asked closes c form e = zero_case asked c (insn.op == 0xac) refl e
+  row_right mutator.NonVoidMethodCalls asked closes c form e =
+      let t = behind given_zero (called_type asked.pool insn) c e in
+      let k = under (λ given. change.Gives (zero_of given)) t.0.ret c t.2 in
+      subst (IsRight insn) k.2 (zero_bare k.0)
+  row_right mutator.ConstructorCalls asked closes c form e = when_right closes change.Unmakes c tt e
+  row_right mutator.RemoveConditionals asked closes c form e =
+      let k = under change.Alone (opcode_for operand_pops insn.op) c e in
+      subst (IsRight insn) k.2 (popped_right operand_pops k.0 operand_pops_right k.1)
 
 -- ---- what a change puts there
 
@@ -308,11 +341,31 @@ module _ (pool : List Const) (insn : Insn) where
   unfolding AreBare
   bares_stand ops q = all_map (λ op. is_bare op ≡ true) (CanReplace pool insn) bare bare_stands ops q
 
+  -- what a call takes is popped, and more is done
+  pops_are_bare : AreBare (pops insn.op (called_args pool insn))
+  unfolding AreBare
+  pops_are_bare = all_append (λ op. is_bare op ≡ true) (map pop_of (reverse (called_args pool insn))) _ (pops_bare (reverse (called_args pool insn))) (receiver_bare (insn.op == 0xb8))
+
+  behind_some : (ops more : List ℕ) → more ≢ [] → map bare (ops ++ more) ≢ []
+  behind_some [] [] some e = some refl
+  behind_some [] (op ∷ more) some e = absurd cc
+  behind_some (op ∷ ops) more some e = absurd cc
+
+  more_fit : (more : List ℕ) → more ≢ [] → AreBare more → FitsInsn pool (map bare (pops insn.op (called_args pool insn) ++ more)) (Some insn)
+  unfolding AreBare
+  more_fit more some right =
+      let ops = pops insn.op (called_args pool insn) in
+      (behind_some ops more some, bares_stand (ops ++ more) (all_append (λ op. is_bare op ≡ true) ops more pops_are_bare right))
+
+  unmade_bare : AreBare (0x57 ∷ 0x01 ∷ [])
+  unfolding AreBare is_bare is_plain_form
+  unmade_bare = (refl, (refl, tt))
+
   pops_fit : FitsInsn pool (map bare (or_nop (pops insn.op (called_args pool insn)))) (Some insn)
   unfolding AreBare
   pops_fit =
       let ops = pops insn.op (called_args pool insn) in
-      (some_ops ops, bares_stand (or_nop ops) (nop_bare ops (all_append (λ op. is_bare op ≡ true) (map pop_of (reverse (called_args pool insn))) _ (pops_bare (reverse (called_args pool insn))) (receiver_bare (insn.op == 0xb8)))))
+      (some_ops ops, bares_stand (or_nop ops) (nop_bare ops pops_are_bare))
 
   value_fits : (v : Value) → right_value v ≡ true → AllByRecursion (CanReplace pool insn) (value_insns v)
   unfolding right_value
@@ -329,15 +382,62 @@ module _ (pool : List Const) (insn : Insn) where
   itself : HasForm insn → is_plain_form (form_of insn.op) ≡ true → StandsFor pool insn insn
   itself form e = record { form = form; names = plain_names (form_of insn.op) insn.wide insn.arg (plain_is (form_of insn.op) e); leads = inr refl }
 
-  nothing_stands : CanReplace pool insn (bare 0x00)
-  unfolding is_bare is_plain_form
-  nothing_stands = bare_stands 0x00 refl
-
   pub change_fits : (c : Change) → HasForm insn → IsRight insn c → FitsInsn pool (new_insns pool c insn) (Some insn)
   unfolding IsRight
   change_fits (change.Opcode op) form right = (λ e. absurd cc, (alike_stands op form right, tt))
   change_fits (change.Increment local by) form right = (λ e. absurd cc, (right, tt))
-  change_fits change.Nothing form right = (λ e. absurd cc, (nothing_stands, tt))
+  change_fits (change.Alone op) form right = (λ e. absurd cc, (bare_stands op right, tt))
   change_fits change.Pops form right = pops_fit
+  change_fits (change.Gives op) form right = more_fit (op ∷ []) (λ e. absurd cc) (right, tt)
+  change_fits change.Unmakes form right = more_fit (0x57 ∷ 0x01 ∷ []) (λ e. absurd cc) unmade_bare
   change_fits (change.Returns v) form right =
       (λ e. absurd cc, (pop_case (insn.op == 0xad), all_append (CanReplace pool insn) (value_insns v) (Plain insn ∷ []) (value_fits v right.1) (itself form right.0, tt)))
+
+-- ---- no multianewarray is put there
+
+plain_other : (op : ℕ) → is_plain_form (form_of op) ≡ true → (op == 0xc5) ≡ false
+unfolding is_plain_form
+plain_other op e = by (op == 0xc5) refl
+  where
+    by : (b : Bool) → (op == 0xc5) ≡ b → b ≡ false
+    by false is = refl
+    by true is = let clash : is_plain_form (form_of 0xc5) ≡ true = subst (λ (n : ℕ). is_plain_form (form_of n) ≡ true) (eqb-true op 0xc5 is) e in absurd cc
+
+alike_other : (op old : ℕ) → are_alike (form_of op) (form_of old) ≡ true → (op == 0xc5) ≡ false
+unfolding are_alike
+alike_other op old e = by (op == 0xc5) refl
+  where
+    by : (b : Bool) → (op == 0xc5) ≡ b → b ≡ false
+    by false is = refl
+    by true is = let clash : are_alike (form_of 0xc5) (form_of old) ≡ true = subst (λ (n : ℕ). are_alike (form_of n) (form_of old) ≡ true) (eqb-true op 0xc5 is) e in absurd cc
+
+not_both : (x : Bool) → not (x && false) ≡ true
+not_both true = refl
+not_both false = refl
+
+no_arrays : (insn : Insn) → (insn.op == 0xc5) ≡ false → makes_no_arrays insn ≡ true
+no_arrays insn e = subst (λ b. not (has_count insn.arg && b) ≡ true) (sym e) (not_both (has_count insn.arg))
+
+abbrev PutNone : List NewInsn → Type 0
+PutNone with = AllByRecursion (λ new. puts_no_arrays new ≡ true) with
+
+bares_put_none : (ops : List ℕ) → PutNone (map bare ops)
+bares_put_none [] = tt
+bares_put_none (op ∷ ops) = (refl, bares_put_none ops)
+
+value_puts_none : (v : Value) → PutNone (value_insns v)
+value_puts_none (value.Constant op) = (refl, tt)
+value_puts_none value.EmptyText = (refl, tt)
+value_puts_none (value.Empty called) = (refl, tt)
+value_puts_none (value.Boxed op called) = (refl, (refl, tt))
+
+pub change_puts_none : (pool : List Const) (insn : Insn) (c : Change) → IsRight insn c → PutNone (new_insns pool c insn)
+unfolding IsRight is_exchange
+change_puts_none pool insn (change.Opcode op) right = (no_arrays (record { op = op; wide = insn.wide; arg = insn.arg }) (alike_other op insn.op (and_parts (nat_lt op (2 ^ 8)) (are_alike (form_of op) (form_of insn.op)) right).1), tt)
+change_puts_none pool insn (change.Increment local by) right = (refl, tt)
+change_puts_none pool insn (change.Alone op) right = (refl, tt)
+change_puts_none pool insn change.Pops right = bares_put_none (or_nop (pops insn.op (called_args pool insn)))
+change_puts_none pool insn (change.Gives op) right = bares_put_none (pops insn.op (called_args pool insn) ++ op ∷ [])
+change_puts_none pool insn change.Unmakes right = bares_put_none (pops insn.op (called_args pool insn) ++ 0x57 ∷ 0x01 ∷ [])
+change_puts_none pool insn (change.Returns v) right =
+    (refl, all_append (λ new. puts_no_arrays new ≡ true) (value_insns v) (Plain insn ∷ []) (value_puts_none v) (no_arrays insn (plain_other insn.op right.0), tt))

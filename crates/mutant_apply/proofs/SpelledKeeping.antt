@@ -55,7 +55,7 @@ use Rattle.mt_attrs.specs.declared.kinds.CodeTable.TheVariants as table
 use Rattle.mt_attrs.specs.declared.kinds.Unseen.{Unseen}
 use Rattle.class_reader.specs.Indices.{names_class}
 use Rattle.class_writer.specs.Writing.{IsNamedField, IsNamedMethod, IsNamedClass, HasClassForm, SpelledIsWritten, WrittenIsSpelled}
-use Rattle.mutator_ops.specs.Mutants.{code_in, code_of, class_mutants}
+use Rattle.mutator_ops.specs.Mutants.{code_in, code_of}
 use Rattle.mutant_apply.specs.Entries.{◌>>=◌, empty_string, method_of}
 use Rattle.mutant_apply.specs.Moved.{moved_place, moved_arg, moved_insn, moved_row, moved_line, moved_item, with_items_moved, long_enough, placed_frame, moved_frame, moved_frames, moved_table, moved_tables}
 use Rattle.mutant_apply.specs.Edited.{mover, increment, of_entry, new_insn, new_insns, edited_insns, edited_code, named_code, edited_parts, with_code, member_with, class_with}
@@ -442,6 +442,6 @@ edits_spelled names writes spells keeps makes bytes class edit made q fits e =
     spells made.1 made.0 (subst IsNamedClass (sym is.is) named) (subst HasClassForm (sym is.is) form) is.bytes
 
 pub mutants_spelled : EditsAreSpelled → SpelledIsWritten → MutantsFit → MutantsAreSpelled
-mutants_spelled spelled writes fit bytes class q =
+mutants_spelled spelled writes fit table bytes class q =
     let form = (writes bytes class q).0 in
-    λ k d lt made e. spelled bytes class _ made q (fit class form k d lt) e
+    λ k d lt made e. spelled bytes class _ made q (fit table class form k d lt).fits e

@@ -3,10 +3,11 @@ use Rattle.std.specs.Prelude.{◌≡◌, ℕ, List, ◌++◌, All, Some, Ok}
 use Rattle.class_model.specs.declared.class.Class.{Class}
 use Rattle.class_model.specs.declared.constant.Const.{Const}
 use Rattle.class_model.specs.declared.edit.Edit.{Edit}
+use Rattle.class_model.specs.declared.mutator.Mutator.{Mutator}
 use Rattle.class_writer.specs.Writing.{layout, HasClassForm}
-use Rattle.mutator_ops.specs.Mutants.{class_mutants}
+use Rattle.mutator_ops.specs.Mutants.{class_mutants_by}
 use Rattle.mutant_apply.specs.Edited.{edited_parts, class_with, applied}
-use Rattle.mutant_apply.specs.Fitting.{Fits}
+use Rattle.mutant_apply.specs.Fitting.{Fits, IsFittingMutant}
 use Rattle.mutant_apply.specs.declared.parts.Parts.{Parts}
 
 -- A class that can be written can be written when it is edited.
@@ -15,11 +16,12 @@ EditKeepsForm =
     (class : Class) (edit : Edit) (parts : Parts) → HasClassForm class → Fits class edit →
     edited_parts edit class ≡ Some parts → HasClassForm (class_with edit class parts)
 
--- The edit of each mutant of a class that can be written fits the class.
+-- Each mutant of a class that can be written, by any table of mutators, is one of which the laws of
+-- edits speak.
 abbrev pub MutantsFit : Type 0
 MutantsFit =
-    (class : Class) → HasClassForm class →
-    All (λ mutant. Fits class mutant.edit) (class_mutants class)
+    (table : List Mutator) (class : Class) → HasClassForm class →
+    All (IsFittingMutant class) (class_mutants_by table class)
 
 -- The class that is made has the pool of the one that is edited with entries behind it, and names
 -- itself, its superclass and its interfaces by the same indices.

@@ -2,9 +2,10 @@
 use Rattle.std.specs.Prelude.{◌≡◌, ℕ, List, All, Some}
 use Rattle.class_model.specs.declared.class.Class.{Class}
 use Rattle.class_model.specs.declared.edit.Edit.{Edit}
+use Rattle.class_model.specs.declared.mutator.Mutator.{Mutator}
 use Rattle.class_reader.specs.Spells.{IsClass, Spells}
 use Rattle.class_writer.specs.Writing.{IsNamedClass}
-use Rattle.mutator_ops.specs.Mutants.{class_mutants}
+use Rattle.mutator_ops.specs.Mutants.{class_mutants_by}
 use Rattle.mutant_apply.specs.Edited.{applied}
 use Rattle.mutant_apply.specs.Fitting.{Fits}
 
@@ -17,7 +18,12 @@ SpelledIsNamed = (class : Class) → IsClass class → IsNamedClass class
 abbrev pub EditsAreSpelled : Type 0
 EditsAreSpelled = (bytes : List ℕ) (class : Class) (edit : Edit) (made : Class × List ℕ) → Spells bytes class → Fits class edit → applied class edit ≡ Some made → Spells made.1 made.0
 
--- The bytes of each mutant of a class file are the class file of the class that the mutant's edit
--- makes.
+-- The bytes of each mutant of a class file, by any table of mutators, are the class file of the class
+-- that the mutant's edit makes.
 abbrev pub MutantsAreSpelled : Type 0
-MutantsAreSpelled = (bytes : List ℕ) (class : Class) → Spells bytes class → All (λ mutant. (made : Class × List ℕ) → applied class mutant.edit ≡ Some made → Spells made.1 made.0) (class_mutants class)
+MutantsAreSpelled =
+    (table : List Mutator) (bytes : List ℕ) (class : Class) → Spells bytes class →
+    All
+    (λ mutant. (made : Class × List ℕ) → applied class mutant.edit ≡ Some made →
+    Spells made.1 made.0)
+    (class_mutants_by table class)

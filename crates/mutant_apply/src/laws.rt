@@ -9,7 +9,8 @@ pub fn edit_keeps_form()
     ensures { EditKeepsForm }
 {}
 
-/// The edit of each mutant of a class is one that `apply` takes.
+/// Each mutant of a class, by any table of mutators, is one of which the laws of edits speak; so its
+/// edit is one that `apply` takes.
 pub fn mutants_fit()
     ensures { MutantsFit }
 {

@@ -104,6 +104,11 @@ place_in table class pool number member code = record {
   closing = closings_in (asks_closings table) pool code;
 }
 
+-- The same of a method of a class, where no mutator asks which of its instructions close a `new`.
+abbrev pub place_of : Class → ℕ → Member → Code → Place
+place_of class number member code =
+    place_in [] (own_name class) class.pool number member code
+
 -- The edit that makes a change of an instruction.
 abbrev pub edit_of : Place → ℕ → Insn → Change → Edit
 edit_of place at insn change =
@@ -114,16 +119,20 @@ edit_of place at insn change =
       more_stack = more_words change;
     }
 
-abbrev pub mutant_of : Place → ℕ → Insn → Mutator → Change → Mutant
-mutant_of place at insn mutator change = record {
+-- The mutant of an edit, whatever made it.
+abbrev pub mutant_with : Place → Mutator → Edit → Mutant
+mutant_with place mutator edit = record {
   class = place.class;
   method = place.method;
   desc = place.desc;
-  at = at;
+  at = edit.at;
   mutator = mutator;
-  line = line_at at place.lines;
-  edit = edit_of place at insn change;
+  line = line_at edit.at place.lines;
+  edit = edit;
 }
+
+abbrev pub mutant_of : Place → ℕ → Insn → Mutator → Change → Mutant
+mutant_of place at insn mutator change = mutant_with place mutator (edit_of place at insn change)
 
 -- The mutant of one mutator at an instruction, where its row applies.
 abbrev pub mutant_by : Place → ℕ → Insn → Mutator → Option Change → List Mutant

@@ -1,0 +1,2 @@
+mod WithLaws
+mod ClosedLaws

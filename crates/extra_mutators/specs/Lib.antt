@@ -1,0 +1,2 @@
+pub mod Extra
+pub mod Laws
