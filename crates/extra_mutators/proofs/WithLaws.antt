@@ -5,9 +5,9 @@ use Rattle.mutator_ops.specs.Laws.{IsOrdered, table_place, AmongExactly, AmongIn
 use Rattle.mutator_ops.proofs.Lists.{ascend, ascending, all_pairs}
 use Rattle.class_model.specs.declared.mutator.Mutator.{Mutator}
 use Rattle.std.specs.Prelude.{map}
-use Rattle.mutant_apply.specs.Laws.{MutantsAreEdits}
+use Rattle.mutant_apply.specs.Laws.{MutantsFit}
 use Rattle.extra_mutators.specs.Extra.{table_with}
-use Rattle.extra_mutators.specs.Laws.{NoneIsAdded, WithExactly, WithInOrder, WithOnce, WithAreEdits}
+use Rattle.extra_mutators.specs.Laws.{NoneIsAdded, WithExactly, WithInOrder, WithOnce, WithFit}
 use Rattle.extra_mutators.specs.declared.extra.Extra.{Extra}
 
 pub none_is_added : NoneIsAdded
@@ -35,5 +35,5 @@ with_in_order law on p ids = law (table_with on) p ids (ordered on)
 pub with_once : AmongOnce → WithOnce
 with_once law on p ids = law (table_with on) p ids (ordered on)
 
-pub with_are_edits : MutantsAreEdits → WithAreEdits
-with_are_edits law on class form = law (table_with on) class form
+pub with_fit : MutantsFit → WithFit
+with_fit law on class form = law (table_with on) class form

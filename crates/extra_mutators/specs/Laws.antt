@@ -14,7 +14,7 @@ use Rattle.mutator_ops.specs.Mutants.{class_mutants}
 use Rattle.mutator_ops.specs.Openings.{closings, closes_at, initialized}
 use Rattle.mutator_ops.specs.Programs.{files_among, mutants}
 use Rattle.mutator_ops.specs.declared.mutant.Mutant.{Mutant}
-use Rattle.mutant_apply.specs.Fitting.{IsEditIn}
+use Rattle.mutant_apply.specs.Fitting.{IsFittingMutant}
 use Rattle.extra_mutators.specs.Extra.{no_extra, table_with, class_mutants_with, mutants_with}
 use Rattle.extra_mutators.specs.declared.extra.Extra.{Extra}
 
@@ -44,11 +44,11 @@ WithOnce =
     (on : Extra) (p : List Info) (ids : List ClassId) →
     AllPairs (λ a b. (a.class ≡ b.class) × HaveOnePlace a b → ⊥) (mutants_with on p ids)
 
--- Each is an edit of its class, of which the laws of edits speak, where the class can be written.
-abbrev pub WithAreEdits : Type 0
-WithAreEdits =
+-- Each is one of which the laws of edits speak, where the class can be written.
+abbrev pub WithFit : Type 0
+WithFit =
     (on : Extra) (class : Class) → HasClassForm class →
-    All (IsEditIn class) (class_mutants_with on class)
+    All (IsFittingMutant class) (class_mutants_with on class)
 
 -- An instruction that closes a `new` calls `<init>` of a class, and an earlier one is a `new` (bb)
 -- of that class.

@@ -1,9 +1,9 @@
 //! Laws on the definitions. Each is the contract of a function that does nothing but call those
 //! whose laws it rests on.
 
-ghost use Rattle.extra_mutators.specs.Laws.{NoneIsAdded, WithExactly, WithInOrder, WithOnce, WithAreEdits, ClosedAreNew};
+ghost use Rattle.extra_mutators.specs.Laws.{NoneIsAdded, WithExactly, WithInOrder, WithOnce, WithFit, ClosedAreNew};
 
-use mutant_apply::mutants_are_edits;
+use mutant_apply::mutants_fit;
 use mutator_ops::{among_exactly, among_in_order, among_once};
 
 /// Where no option asks for a mutator, the mutants are those of the table.
@@ -33,12 +33,12 @@ pub fn with_once()
     among_once();
 }
 
-/// Each mutant is an edit of its class, as the laws of edits ask. So what these say of layout,
-/// coverage, soundness and reuse, they say of it.
-pub fn with_are_edits()
-    ensures { WithAreEdits }
+/// Each mutant is one of which the laws of edits speak. So what these say of layout, coverage,
+/// soundness and reuse, they say of it.
+pub fn with_fit()
+    ensures { WithFit }
 {
-    mutants_are_edits();
+    mutants_fit();
 }
 
 /// What closes a `new` is a call of `<init>` of the class of an earlier `new`. So a call of

@@ -6,7 +6,5 @@ mod laws;
 mod lists;
 
 pub use extra::{Extra, table_with};
-pub use laws::{
-    closed_are_new, none_is_added, with_are_edits, with_exactly, with_in_order, with_once,
-};
+pub use laws::{closed_are_new, none_is_added, with_exactly, with_fit, with_in_order, with_once};
 pub use lists::{class_mutants_with, count_with, mutants_with};

@@ -8,6 +8,8 @@ mod calls;
 mod claims;
 #[cfg(test)]
 mod claims_tests;
+#[cfg(test)]
+mod extra_tests;
 mod list_calls;
 #[cfg(test)]
 mod list_tests;

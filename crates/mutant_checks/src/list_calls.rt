@@ -17,9 +17,9 @@ pub fn class_mutants(alloc: Global, class: &Class) -> Result<Seq<Mutant>, Memory
 }
 
 /// `mutator_ops::row`.
-pub fn row(mutator: Mutator, asked: &Asked, insn: &Insn) -> Option<Change>
-    ensures { result ≡ row mutator asked.now insn.now }
+pub fn row(mutator: Mutator, asked: &Asked, closes: bool, insn: &Insn) -> Option<Change>
+    ensures { result ≡ row mutator asked.now closes insn.now }
 {
-    let change = mutator_ops::row(mutator, asked, insn);
+    let change = mutator_ops::row(mutator, asked, closes, insn);
     change
 }

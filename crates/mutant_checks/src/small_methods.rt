@@ -2,9 +2,9 @@
 
 use class_model::names::ascii;
 use class_model::{
-    Arg, Attr, Body, Class, Code, Const, Insn, Member, Memory, Name, NewInsn, Note, Seq,
+    Arg, Attr, Body, Class, Code, Const, Insn, Member, Memory, Mutator, Name, NewInsn, Note, Seq,
 };
-use mutator_ops::{Mutant, class_mutants, count_mutants};
+use mutator_ops::{Mutant, class_mutants_by, count_mutants_by, mutators};
 use std::alloc::Global;
 use std::test::Fail;
 
@@ -31,7 +31,8 @@ pub const PLAIN: Case<'static> = Case {
     called: ("g", "()V"),
 };
 
-fn push_texts(alloc: Global, pool: &mut Seq<Const>, texts: &[&str]) -> Result<(), Memory> {
+/// Texts behind the entries of a pool.
+pub fn push_texts(alloc: Global, pool: &mut Seq<Const>, texts: &[&str]) -> Result<(), Memory> {
     for text in texts {
         pool.push(Const::Utf8(ascii(alloc, text)?))?;
     }
@@ -84,12 +85,7 @@ fn arg_of(op: u8, number: i16) -> Arg {
     }
 }
 
-fn code_of(alloc: Global, case: &Case<'_>) -> Result<Attr, Memory> {
-    let insn = Insn {
-        op: case.op,
-        wide: false,
-        arg: arg_of(case.op, case.number),
-    };
+fn code_of(alloc: Global, insns: Seq<Insn>) -> Result<Attr, Memory> {
     let lines = Attr {
         name: 1,
         body: Body::Lines(only(alloc, (0, 7))?),
@@ -99,15 +95,16 @@ fn code_of(alloc: Global, case: &Case<'_>) -> Result<Attr, Memory> {
         body: Body::Code(Code {
             max_stack: 9,
             max_locals: 9,
-            insns: only(alloc, insn)?,
+            insns,
             rows: Seq::new(alloc),
             attrs: only(alloc, lines)?,
         }),
     })
 }
 
-fn class_of(alloc: Global, case: &Case<'_>) -> Result<Class, Memory> {
-    let mut attrs = only(alloc, code_of(alloc, case)?)?;
+/// A class of this pool, whose one method has these instructions.
+pub fn class_with(alloc: Global, pool: Seq<Const>, insns: Seq<Insn>) -> Result<Class, Memory> {
+    let mut attrs = only(alloc, code_of(alloc, insns)?)?;
     attrs.push(note_attr(alloc, 9)?)?;
     let method = Member {
         flags: 9,
@@ -118,7 +115,7 @@ fn class_of(alloc: Global, case: &Case<'_>) -> Result<Class, Memory> {
     Ok(Class {
         minor: 0,
         major: 52,
-        pool: pool_of(alloc, case)?,
+        pool,
         flags: 33,
         this: 2,
         parent: 0,
@@ -127,6 +124,15 @@ fn class_of(alloc: Global, case: &Case<'_>) -> Result<Class, Memory> {
         methods: only(alloc, method)?,
         attrs: only(alloc, note_attr(alloc, 10)?)?,
     })
+}
+
+fn class_of(alloc: Global, case: &Case<'_>) -> Result<Class, Memory> {
+    let insn = Insn {
+        op: case.op,
+        wide: false,
+        arg: arg_of(case.op, case.number),
+    };
+    class_with(alloc, pool_of(alloc, case)?, only(alloc, insn)?)
 }
 
 // An instruction as its opcode in hexadecimal, or as what it does.
@@ -168,12 +174,22 @@ fn text_of(alloc: Global, mutants: &[Mutant]) -> Result<String, Fail> {
     Ok(text)
 }
 
-/// The mutants of a case are these, on line 7, and so many are counted.
-pub fn agrees(alloc: Global, case: &Case<'_>, wanted: &str) -> Result<bool, Fail> {
+/// The mutants of a case by a table are these, on line 7, and so many are counted.
+pub fn agrees_by(
+    alloc: Global,
+    table: &[Mutator],
+    case: &Case<'_>,
+    wanted: &str,
+) -> Result<bool, Fail> {
     let class = class_of(alloc, case)?;
-    let mutants = class_mutants(alloc, &class)?;
-    let count = count_mutants(alloc, &class)?;
+    let mutants = class_mutants_by(alloc, table, &class)?;
+    let count = count_mutants_by(alloc, table, &class)?;
     let text = text_of(alloc, mutants.as_slice())?;
     let on_line = mutants.as_slice().iter().all(|m| m.line == 7);
     Ok(on_line && count == mutants.len() as u64 && text.as_str() == wanted)
+}
+
+/// The same by the mutators that no option asks for.
+pub fn agrees(alloc: Global, case: &Case<'_>, wanted: &str) -> Result<bool, Fail> {
+    agrees_by(alloc, &mutators(), case, wanted)
 }
