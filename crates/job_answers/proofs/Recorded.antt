@@ -134,7 +134,7 @@ module _ (g : Given) (a : Allowed) (s : Suite) (h : IsAccepted s) where
     way = is_viable s.program m of made at
 
     is_made : IsMade s.program m made
-    is_made = let w = way in record { file = of.file; found = of.found; listed = of.listed; applies = w.applies }
+    is_made = let w = way in record { file = of.file; found = of.found; fitting = of.fitting; applies = w.applies }
 
     form : IsClass of.file
     form =
@@ -155,7 +155,7 @@ module _ (g : Given) (a : Allowed) (s : Suite) (h : IsAccepted s) where
     mutated =
         let suite = h.suite in
         let built = suite.of.program in
-        record { infos = built.meant; file = of.file; found = of.found; listed = of.listed; spelled = inr form; made = is_edited }
+        record { infos = built.meant; file = of.file; found = of.found; fitting = of.fitting; spelled = inr form; made = is_edited }
 
     is_taken : viable (files_of s.program) (look s.program) m ≡ Some made_look
     is_taken =

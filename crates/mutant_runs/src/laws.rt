@@ -10,9 +10,8 @@ use crate::{
 };
 use method_laws::{an_edit_is_judged_by_its_method, edited_methods_stay_first};
 use mutant_apply::{
-    edits_are_spelled, mutants_fit, parts_are_of_applied, what_is_spelled_is_named,
+    edits_are_spelled, parts_are_of_applied, what_is_spelled_is_named,
 };
-use mutator_ops::listed_exactly;
 use type_laws::accepted_code_has_room_for_what_it_catches;
 
 /// A class file of a program is found by its name.
@@ -20,13 +19,11 @@ pub fn files_are_found()
     ensures { FilesAreFound }
 {}
 
-/// The mutants of a class file of a program are of the program, as `viable` and `verdicts` ask.
+/// The mutants of a class file of a program, whatever made them, are of the program, as `viable` and
+/// `verdicts` ask.
 pub fn mutants_are_of()
     ensures { MutantsAreOf }
-{
-    listed_exactly();
-    mutants_fit();
-}
+{}
 
 /// Entries that an edit adds mean what they say, and nothing else that the class file says means
 /// anything else by them.

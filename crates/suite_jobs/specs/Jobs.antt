@@ -16,7 +16,7 @@ use Rattle.class_link.specs.Info.{Info}
 use Rattle.class_table.specs.declared.scripted.Test.{Test}
 use Rattle.class_table.specs.Table.{look}
 use Rattle.test_discovery.specs.Discovery.{Tests}
-use Rattle.mutator_ops.specs.Mutants.{class_mutants}
+use Rattle.mutant_apply.specs.Fitting.{IsFittingMutant}
 use Rattle.mutator_ops.specs.declared.mutant.Mutant.{Mutant}
 use Rattle.mutator_ops.specs.declared.mutant.State.{State}
 use Rattle.mutator_ops.specs.declared.mutant.Verdict.{Verdict}
@@ -45,11 +45,11 @@ pub record Allowed : Type 0 where
   pub limits : Limits
   pub steps : ℕ
 
--- The mutant is one of a class file of the program.
+-- The mutant is one of a class file of the program, whatever made it.
 pub record IsOfFile (p : List Info) (m : Mutant) : Type 0 where
   pub file : Class
   pub found : files_of p m.class ≡ Some file
-  pub listed : Contains (class_mutants file) m
+  pub fitting : IsFittingMutant file m
 
 -- The program was built of the class files and accepted; the tests are those that were found in
 -- classes of these names, and the mutants are of class files.

@@ -22,10 +22,9 @@ use Rattle.lib_table.specs.Library.{library_meant}
 use Rattle.test_discovery.specs.Listed.{Files, rising}
 use Rattle.test_discovery.specs.Scripts.{tests_of, first_of as first_test}
 use Rattle.test_laws.specs.Laws.{with_file, EditKeepsTests, EditKeepsName}
-use Rattle.mutator_ops.specs.Mutants.{class_mutants}
 use Rattle.mutator_ops.specs.declared.mutant.Mutant.{Mutant}
 use Rattle.mutant_apply.specs.Edited.{applied}
-use Rattle.mutant_apply.specs.Spelled.{MutantsAreSpelled}
+use Rattle.mutant_apply.specs.Spelled.{EditsAreSpelled}
 use Rattle.suite_laws.specs.Below.{classes_in, class_file, with_class}
 use Rattle.suite_laws.specs.Edited.{IsMutated, MutantsAreEdits}
 use Rattle.record_rules.specs.Profiles.{class_by}
@@ -41,7 +40,7 @@ are_edited p m made h =
     ap (λ (o : Option Class). option_map (λ (k : Class × List ℕ). with_class k.0 (look p)) (option_and_then (λ c. applied c m.edit) o)) h.found
     ∙ ap (option_map (λ (k : Class × List ℕ). with_class k.0 (look p))) h.applies
 
-module _ (law : MutantsAreSpelled) (keeps_name : EditKeepsName) (files : List Loaded) (p : List Info) (m : Mutant) (made : Class × List ℕ) (s : IsSuite files p) (h : IsMade p m made) where
+module _ (law : EditsAreSpelled) (keeps_name : EditKeepsName) (files : List Loaded) (p : List Info) (m : Mutant) (made : Class × List ℕ) (s : IsSuite files p) (h : IsMade p m made) where
   at_file : class_file (classes_in files) m.class ≡ Some h.file
   at_file = sym (ap (λ (f : Name → Option Class). f m.class) s.of.files) ∙ h.found
 
@@ -55,8 +54,7 @@ module _ (law : MutantsAreSpelled) (keeps_name : EditKeepsName) (files : List Lo
   was_class = let spells = was_file in spells.form
 
   made_file : Spells made.1 made.0
-  made_file =
-      All-contains (λ (k : Mutant). (x : Class × List ℕ) → applied h.file k.edit ≡ Some x → Spells x.1 x.0) (class_mutants h.file) m (law source.0 h.file was_file) h.listed made h.applies
+  made_file = let fitting = h.fitting in law source.0 h.file m.edit made was_file fitting.fits h.applies
 
   name_same : own_name made.0 ≡ m.class
   name_same = let u = source.2 in keeps_name h.file m.edit made was_class h.applies ∙ u.name
@@ -114,14 +112,14 @@ module _ (law : MutantsAreSpelled) (keeps_name : EditKeepsName) (files : List Lo
   mutated : IsMutated p m (with_class made.0 (look p))
   mutated =
       let built = s.of.program in
-      record { infos = built.meant; file = h.file; found = h.found; listed = h.listed; spelled = inr was_class; made = are_edited p m made h }
+      record { infos = built.meant; file = h.file; found = h.found; fitting = h.fitting; spelled = inr was_class; made = are_edited p m made h }
 
   pub made_heads : MutantsAreEdits → HeadsAlike (look p) (with_class made.0 (look p))
   made_heads edits =
       let x = edits p m (with_class made.0 (look p)) mutated in
       λ n. class_alike x.edit (look p) (with_class made.0 (look p)) x.edited head_of refl n
 
-pub mutants : MutantsAreSpelled → MutantsAreEdits → EditKeepsTests → EditKeepsName → MutantsAreReusable
+pub mutants : EditsAreSpelled → MutantsAreEdits → EditKeepsTests → EditKeepsName → MutantsAreReusable
 mutants law edits keeps_tests keeps_name files p m made t q limit s own h =
     let ready = s.of.ready in
     let built = s.of.program in

@@ -11,7 +11,7 @@ use Rattle.class_link.specs.Info.{Info, own_name}
 use Rattle.class_table.specs.declared.scripted.Test.{Test}
 use Rattle.class_table.specs.Table.{look}
 use Rattle.test_discovery.specs.Discovery.{Tests}
-use Rattle.mutator_ops.specs.Mutants.{class_mutants}
+use Rattle.mutant_apply.specs.Fitting.{IsFittingMutant}
 use Rattle.mutator_ops.specs.declared.mutant.Mutant.{Mutant}
 use Rattle.mutant_apply.specs.Edited.{applied}
 use Rattle.suite_laws.specs.Below.{ProgramFault, duplicate_of, super_fault, classes_in, names_in, files_of, with_class, edited}
@@ -40,7 +40,7 @@ OriginalsAreReusable =
 pub record IsMade (p : List Info) (m : Mutant) (made : Class × List ℕ) : Type 0 where
   pub file : Class
   pub found : files_of p m.class ≡ Some file
-  pub listed : Contains (class_mutants file) m
+  pub fitting : IsFittingMutant file m
   pub applies : applied file m.edit ≡ Some made
 
 -- So are those on each mutant, which need not be accepted.

@@ -16,7 +16,7 @@ ghost use Rattle.suite_records.specs.Laws.{ProgramsAreFaultless, TrueRecordsAreF
 use class_records::{
     class_files_are_a_profile, ordered_walks_are_closed, records_of_files_are_true,
 };
-use mutant_apply::mutants_are_spelled;
+use mutant_apply::edits_are_spelled;
 use reuse_laws::reuse_changes_nothing;
 use suite_laws::{mutant_laws_are_of_use, mutants_are_edits, programs_have_files};
 pub use suite_laws::{
@@ -48,7 +48,7 @@ pub fn mutants_are_reusable()
     ensures reusable { MutantsAreReusable }
     ensures edited { MutantsAreEdited }
 {
-    mutants_are_spelled();
+    edits_are_spelled();
     mutants_are_edits();
     edits_keep_tests();
 }

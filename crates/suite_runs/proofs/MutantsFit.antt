@@ -3,14 +3,13 @@ use Rattle.std.proofs.Common.{◌≡◌, ◌∙◌, ℕ, Bool, true, false, List
 use Rattle.std.specs.Prelude.{All, if◌then◌else◌}
 use Rattle.std.specs.List.{AllByRecursion}
 use Rattle.std.specs.Cmp.Lexicographic.{same_text}
-use Rattle.std.proofs.lemmas.List.Elements.{All-contains, All-from_recursion, recursion_from_All}
+use Rattle.std.proofs.lemmas.List.Elements.{All-from_recursion, recursion_from_All}
 use Rattle.class_model.specs.declared.class.Class.{Class}
 use Rattle.class_reader.specs.Spells.{Spells, IsClass}
 use Rattle.class_writer.specs.Writing.{SpelledIsWritten}
 use Rattle.class_link.specs.Info.{Info, own_name}
 use Rattle.class_link.specs.declared.loaded.Loaded.{Loaded}
 use Rattle.program_rules.specs.Names.{Name, same}
-use Rattle.mutator_ops.specs.Mutants.{class_mutants}
 use Rattle.mutator_ops.specs.declared.mutant.Mutant.{Mutant}
 use Rattle.suite_workers.specs.Below.{MutantsAreOf}
 use Rattle.suite_workers.specs.Below.{files_of, IsMutantOf}
@@ -41,7 +40,7 @@ module _ (written : SpelledIsWritten) (law : MutantsAreOf) (s : Suite) (h : IsAc
       file_of m.class of.file s.files (recursion_from_All (λ l. Spells l.bytes l.class) s.files suite.read) (recursion_from_All IsClass (classes_in s.files) suite.of.spelled)
       (sym (ap (λ (f : Name → Option Class). f m.class) suite.of.files) ∙ of.found) in
       let there : files_of s.program (own_name of.file) ≡ Some of.file = ap (files_of s.program) file.named ∙ of.found in
-      All-contains (IsMutantOf (files_of s.program)) (class_mutants of.file) m (law s.program of.file (written file.bytes of.file file.spells).0 file.form there) of.listed
+      law s.program of.file m (written file.bytes of.file file.spells).0 file.form there of.fitting
 
   each_fits : (ms : List Mutant) → AllByRecursion (IsOfFile s.program) ms → AllByRecursion (IsMutantOf (files_of s.program)) ms
   each_fits [] q = tt

@@ -235,7 +235,7 @@ module _ (g : Laws) (a : Allowed) (s : Suite) (old : List RunRecord) (h : IsAcce
     is_safe_mutant : IsSafeMutant s.program m (with_class made.0 (look s.program))
     is_safe_mutant = record {
       safe = safe;
-      mutated = record { infos = h.suite.of.program.meant; file = of.file; found = of.found; listed = of.listed; spelled = inr form; made = is_edited };
+      mutated = record { infos = h.suite.of.program.meant; file = of.file; found = of.found; fitting = of.fitting; spelled = inr form; made = is_edited };
       accepted = is_taken;
     }
 

@@ -12,7 +12,7 @@ use Rattle.class_link.specs.Edits.{class_edited}
 use Rattle.class_link.specs.Info.{Info, body_name, own_name}
 use Rattle.class_table.specs.Table.{IsProgram, look, name_at, number_of, place_in}
 use Rattle.class_table.proofs.Places.{name_of_class, names_kept, number_at, number_named}
-use Rattle.mutator_ops.specs.Mutants.{class_mutants}
+use Rattle.mutant_apply.specs.Fitting.{IsFittingMutant}
 use Rattle.mutator_ops.specs.declared.mutant.Mutant.{Mutant}
 use Rattle.mutant_apply.specs.BytesLaws.{PartsAreOfApplied}
 use Rattle.suite_records.specs.Below.{EditsMake, IsEditBy}
@@ -52,11 +52,11 @@ module _ (p : List Info) (ok : IsProgram p) (m : Mutant) (id : ℕ) (class : Inf
   found : files_of p m.class ≡ Some by.loaded.class
   found = file_found p m.class id by.old by.loaded by.number by.there by.original
 
-  pub is_made : IsSomeAnd (files_of p m.class) (λ file. Contains (class_mutants file) m) → IsMade p m made
-  is_made listed = record {
+  pub is_made : IsSomeAnd (files_of p m.class) (λ file. IsFittingMutant file m) → IsMade p m made
+  is_made fits = record {
     file = by.loaded.class;
     found = found;
-    listed = subst (λ (o : Option Class). IsSomeAnd o (λ file. Contains (class_mutants file) m)) found listed;
+    fitting = subst (λ (o : Option Class). IsSomeAnd o (λ file. IsFittingMutant file m)) found fits;
     applies = edit.applied;
   }
 

@@ -7,7 +7,7 @@ use Rattle.class_link.specs.declared.loaded.Loaded.{Loaded}
 use Rattle.class_link.specs.Info.{Info, IsInfo}
 use Rattle.class_table.specs.declared.scripted.Test.{Test}
 use Rattle.test_discovery.specs.Discovery.{Tests}
-use Rattle.mutator_ops.specs.Mutants.{class_mutants}
+use Rattle.mutant_apply.specs.Fitting.{IsFittingMutant}
 use Rattle.mutator_ops.specs.declared.mutant.Mutant.{Mutant}
 use Rattle.suite_records.specs.Below.{IsEditBy}
 use Rattle.suite_records.specs.Below.{IsMutantOf, mutant_runs_files_of as files_of}
@@ -35,9 +35,9 @@ OriginalsMayBeRecorded =
 
 -- ---- mutants
 
--- The mutant is listed of a class file of the program.
+-- The mutant is one of a class file of the program, whatever made it.
 abbrev pub IsListed : List Info → Mutant → Type 0
-IsListed p m = IsSomeAnd (files_of p m.class) (λ file. Contains (class_mutants file) m)
+IsListed p m = IsSomeAnd (files_of p m.class) (λ file. IsFittingMutant file m)
 
 -- So it is of a suite's tests on the program in which the class that a mutant's edit makes stands.
 abbrev pub MutantsMayBeRecorded : Type 0
