@@ -1,4 +1,4 @@
-//! Makes every mutant of each class file below a folder: the one that the first word names, else
+//! Makes every mutant of each class file below a folder, by all mutators: the one that the first word names, else
 //! the one that it runs in. The bytes of each edited class are read again, and what was read has to
 //! be written as these bytes. Where a second word names a folder, it gets a file for each class
 //! file that has mutants: the bytes of each edited class behind their length in four bytes. Prints
@@ -13,11 +13,19 @@ ghost use Rattle.mutant_apply.specs.Fitting.{Fits};
 use class_model::{Bytes, Class, ClassFault, LayoutFault, Memory};
 use class_reader::read_class;
 use class_writer::{what_is_spelled_is_written, write_class};
+use extra_mutators::{Extra, class_mutants_with, with_fit};
 use mt_edge::{EdgeFault, HostTree, Tree};
-use mutant_apply::{apply, mutants_fit};
-use mutator_ops::{Mutant, class_mutants};
+use mutant_apply::apply;
+use mutator_ops::Mutant;
 use std::alloc::Global;
 use std::env;
+
+// The mutators that an option asks for are tried, too.
+const ALL: Extra = Extra {
+    calls: true,
+    makers: true,
+    conditions: true,
+};
 
 /// How many there were.
 #[derive(Clone, Copy)]
@@ -108,9 +116,9 @@ fn edit_file(
     made: &mut Bytes,
 ) -> Result<(), ClassFault> {
     let class = read_class(alloc, bytes)?;
-    let mutants = class_mutants(alloc, &class)?;
+    let mutants = class_mutants_with(alloc, &class, &ALL)?;
     what_is_spelled_is_written();
-    mutants_fit();
+    with_fit();
     edit_each(alloc, &class, mutants.as_slice(), counts, made)?;
     Ok(())
 }

@@ -20,12 +20,11 @@ use Rattle.class_writer.specs.Writing.{HasClassForm}
 use Rattle.program_rules.specs.Names.{Name, same}
 use Rattle.class_link.specs.declared.loaded.Loaded.{Loaded}
 use Rattle.class_link.specs.Info.{Info, own_name}
-use Rattle.mutator_ops.specs.Mutants.{Place, place_in, mutant_by, mutants_by, mutants_from, code_mutants, code_of, is_synthetic, is_left_out, method_mutants, methods_mutants, class_mutants}
+use Rattle.mutator_ops.specs.Mutants.{class_mutants_by}
 use Rattle.mutator_ops.specs.Programs.{in_order, mutants_by_name, mutants_among}
-use Rattle.mutator_ops.specs.Table.{mutators, row}
-use Rattle.mutator_ops.specs.declared.change.Change.{Change}
+use Rattle.mutator_ops.specs.Table.{mutators}
 use Rattle.mutator_ops.specs.declared.mutant.Mutant.{Mutant}
-use Rattle.mutant_apply.specs.Fitting.{Fits}
+use Rattle.mutant_apply.specs.Fitting.{Fits, IsFittingMutant}
 use Rattle.mutant_apply.specs.Laws.{MutantsFit}
 use Rattle.suite_runs.specs.Below.{IsOfFile, IsListed, ClassFiles, files_of, IsMutantOf}
 use Rattle.suite_runs.specs.Below.{again, least, duplicate_in}
@@ -87,43 +86,6 @@ joined : {X : Type 0} (P : X → Type 0) (es : List (List ℕ × List X)) → Al
 joined P [] q = tt
 joined P (e ∷ es) q = appended P e.1 (flat_map (λ x. x.1) es) q.0 (joined P es q.1)
 
--- ---- the class that a mutant names
-
-abbrev Names : Name → Mutant → Type 0
-Names n m = m.class ≡ n
-
-by_row : (place : Place) (at : ℕ) (insn : Insn) (mutator : Mutator) (o : Option Change) → AllByRecursion (Names place.class) (mutant_by place at insn mutator o)
-by_row place at insn mutator None = tt
-by_row place at insn mutator (Some change) = (refl, tt)
-
-by_rows : (ms : List Mutator) (place : Place) (at : ℕ) (insn : Insn) → AllByRecursion (Names place.class) (mutants_by ms place at insn)
-by_rows [] place at insn = tt
-by_rows (m ∷ ms) place at insn =
-    appended (Names place.class) (mutant_by place at insn m (row m place.asked insn)) (mutants_by ms place at insn) (by_row place at insn m (row m place.asked insn)) (by_rows ms place at insn)
-
-mutants_name : (place : Place) (at : ℕ) (insns : List Insn) → AllByRecursion (Names place.class) (mutants_from place at insns)
-mutants_name place at [] = tt
-mutants_name place at (insn ∷ insns) =
-    appended (Names place.class) (mutants_by mutators place at insn) (mutants_from place (at + 1) insns) (by_rows mutators place at insn) (mutants_name place (at + 1) insns)
-
-code_name : (pool : List Const) (class : Name) (number : ℕ) (member : Member) (code : Option Code) → AllByRecursion (Names class) (code_mutants class pool number member code)
-code_name pool class number member None = tt
-code_name pool class number member (Some code) = mutants_name (place_in class pool number member code) 0 (out-Code code).insns
-
-unless_left_out : (b : Bool) (n : Name) (ms : List Mutant) → AllByRecursion (Names n) ms → AllByRecursion (Names n) (if b then [] else ms)
-unless_left_out true n ms p = tt
-unless_left_out false n ms p = p
-
-methods_name : (pool : List Const) (class : Name) (number : ℕ) (members : List Member) → AllByRecursion (Names class) (methods_mutants class pool number members)
-methods_name pool class number [] = tt
-methods_name pool class number (member ∷ members) =
-    appended (Names class) (method_mutants class pool number member) (methods_mutants class pool (number + 1) members)
-    (unless_left_out (is_left_out member.flags) class (code_mutants class pool number member (code_of member.attrs)) (code_name pool class number member (code_of member.attrs)))
-    (methods_name pool class (number + 1) members)
-
-own_mutants : (c : Class) → AllByRecursion (Names (own_name c)) (class_mutants c)
-own_mutants c = unless_left_out (is_synthetic c.flags) (own_name c) (methods_mutants (own_name c) c.pool 0 c.methods) (methods_name c.pool (own_name c) 0 c.methods)
-
 -- ---- the class of a name
 
 nothing_twice : (ns : List Name) → least ns ≡ None → ns ≡ []
@@ -173,28 +135,25 @@ found (x ∷ xs) ls h = found_case x xs ls (list_any (same (own_name x)) (map ow
 
 -- ---- the mutants of a suite
 
-one_fits : (files : ClassFiles) (c : Class) (m : Mutant) → IsSpelled c → files (own_name c) ≡ Some c → Names (own_name c) m → Fits c m.edit → IsMutantOf files m
-one_fits files c m form is named fits =
-    let here : files m.class ≡ Some c = ap files named ∙ is in
-    subst (λ (o : Option Class). IfSome o (λ d. HasClassForm d × Fits d m.edit × IsClass d)) (sym here) (form.form, fits, form.spelled)
+one_fits : (files : ClassFiles) (c : Class) (m : Mutant) → IsSpelled c → files m.class ≡ Some c → Fits c m.edit → IsMutantOf files m
+one_fits files c m form here fits = subst (λ (o : Option Class). IfSome o (λ d. HasClassForm d × Fits d m.edit × IsClass d)) (sym here) (form.form, fits, form.spelled)
 
--- A mutant of a class file: it is listed of the one that its class's name means, which takes its
--- edit.
+-- A mutant of a class file: it is one of that which its class's name means, and this takes its edit.
 abbrev IsListedIn : ClassFiles → Mutant → Type 0
 IsListedIn files m =
-    (c : Class) × (files m.class ≡ Some c) × Contains (class_mutants c) m × IsMutantOf files m
+    (c : Class) × (files m.class ≡ Some c) × IsFittingMutant c m × IsMutantOf files m
 
-one_listed : (files : ClassFiles) (c : Class) (m : Mutant) → IsSpelled c → files (own_name c) ≡ Some c → Names (own_name c) m × Contains (class_mutants c) m → Fits c m.edit → IsListedIn files m
-one_listed files c m form is here fits = (c, ap files here.0 ∙ is, here.1, one_fits files c m form is here.0 fits)
+one_listed : (files : ClassFiles) (c : Class) (m : Mutant) → IsSpelled c → files (own_name c) ≡ Some c → IsFittingMutant c m → IsListedIn files m
+one_listed files c m form is fitting =
+    let own : m.class ≡ own_name c = ap (λ (m : Mutant). m.class) fitting.is in
+    let here : files m.class ≡ Some c = ap files own ∙ is in
+    (c, here, fitting, one_fits files c m form here fitting.fits)
 
-class_listed : MutantsFit → (files : ClassFiles) (c : Class) → IsSpelled c → files (own_name c) ≡ Some c → AllByRecursion (IsListedIn files) (class_mutants c)
-class_listed fit files c form is =
-    let ms = class_mutants c in
-    let here : AllByRecursion (λ (m : Mutant). Names (own_name c) m × Contains ms m) ms =
-    both (Names (own_name c)) (Contains ms) (λ (m : Mutant). Names (own_name c) m × Contains ms m) ms (λ m named among. (named, among))
-    (own_mutants c) (recursion_from_All (Contains ms) ms (All-contains_itself ms)) in
-    both (λ (m : Mutant). Names (own_name c) m × Contains ms m) (λ (m : Mutant). Fits c m.edit) (IsListedIn files) ms (λ m found fits. one_listed files c m form is found fits)
-    here (recursion_from_All (λ (m : Mutant). Fits c m.edit) ms (fit c form.form))
+class_listed : MutantsFit → (table : List Mutator) (files : ClassFiles) (c : Class) → IsSpelled c → files (own_name c) ≡ Some c → AllByRecursion (IsListedIn files) (class_mutants_by table c)
+class_listed fit table files c form is =
+    let ms = class_mutants_by table c in
+    both (IsFittingMutant c) (λ (m : Mutant). Unit {0}) (IsListedIn files) ms (λ m fitting u. one_listed files c m form is fitting)
+    (recursion_from_All (IsFittingMutant c) ms (fit table c form.form)) (every (λ (m : Mutant). Unit {0}) ms (λ m. tt))
 
 -- the classes of what was read
 classes_read : (xs : List Loaded) → AllByRecursion IsRead xs → AllByRecursion (λ (l : Loaded). IsSpelled l.class) xs
@@ -208,16 +167,16 @@ formed : (xs : List Loaded) → AllByRecursion (λ (l : Loaded). IsSpelled l.cla
 formed [] p = tt
 formed (x ∷ xs) p = (p.0, formed xs p.1)
 
-among_listed : MutantsFit → (files : ClassFiles) (cs : List Class) → AllByRecursion (λ (c : Class). IsSpelled c × (files (own_name c) ≡ Some c)) cs → AllByRecursion (IsListedIn files) (mutants_among cs)
-among_listed fit files cs p =
-    joined (IsListedIn files) (in_order (map mutants_by_name cs))
-    (folded (AllByRecursion (IsListedIn files)) [] (map mutants_by_name cs) tt
-    (mapped (λ (e : List ℕ × List Mutant). AllByRecursion (IsListedIn files) e.1) mutants_by_name cs
-    (both (λ (c : Class). IsSpelled c × (files (own_name c) ≡ Some c)) (λ (c : Class). Unit {0}) (λ (c : Class). AllByRecursion (IsListedIn files) (class_mutants c)) cs (λ c q u. class_listed fit files c q.0 q.1) p (every (λ (c : Class). Unit {0}) cs (λ c. tt)))))
+among_listed : MutantsFit → (table : List Mutator) (files : ClassFiles) (cs : List Class) → AllByRecursion (λ (c : Class). IsSpelled c × (files (own_name c) ≡ Some c)) cs → AllByRecursion (IsListedIn files) (mutants_among table cs)
+among_listed fit table files cs p =
+    joined (IsListedIn files) (in_order (map (mutants_by_name table) cs))
+    (folded (AllByRecursion (IsListedIn files)) [] (map (mutants_by_name table) cs) tt
+    (mapped (λ (e : List ℕ × List Mutant). AllByRecursion (IsListedIn files) e.1) (mutants_by_name table) cs
+    (both (λ (c : Class). IsSpelled c × (files (own_name c) ≡ Some c)) (λ (c : Class). Unit {0}) (λ (c : Class). AllByRecursion (IsListedIn files) (class_mutants_by table c)) cs (λ c q u. class_listed fit table files c q.0 q.1) p (every (λ (c : Class). Unit {0}) cs (λ c. tt)))))
 
 listed : (p : List Info) (ms : List Mutant) → AllByRecursion (IsListedIn (files_of p)) ms → AllByRecursion (IsListed p) ms
 listed p [] h = tt
-listed p (m ∷ ms) h = (record { file = h.0.0; found = h.0.1; listed = h.0.2; fit = h.0.3 }, listed p ms h.1)
+listed p (m ∷ ms) h = (record { file = h.0.0; found = h.0.1; fitting = h.0.2; fit = h.0.3 }, listed p ms h.1)
 
 -- The mutants of a suite are of the class files of its program.
 pub all_listed : MutantsFit → (s : LoadedSuite) (p : List Info) → IsFormed s → linked s ≡ Ok tt → files_of p ≡ suite_files s → All (IsListed p) (mutants_of s)
@@ -233,7 +192,7 @@ all_listed fit s p forms ok same_files =
     front (λ (c : Class). IsSpelled c × (files (own_name c) ≡ Some c)) (classes_in s.classes) (classes_in s.tests)
     (subst (λ (ds : List Class). AllByRecursion (λ (c : Class). IsSpelled c × (files (own_name c) ≡ Some c)) ds) (classes_both s.classes s.tests) each) in
     All-from_recursion (IsListed p) (mutants_of s)
-    (listed p (mutants_of s) (subst (λ (f : ClassFiles). AllByRecursion (IsListedIn f) (mutants_of s)) (sym same_files) (among_listed fit files (classes_in s.classes) some)))
+    (listed p (mutants_of s) (subst (λ (f : ClassFiles). AllByRecursion (IsListedIn f) (mutants_of s)) (sym same_files) (among_listed fit mutators files (classes_in s.classes) some)))
 
 -- ---- the classes that were read
 

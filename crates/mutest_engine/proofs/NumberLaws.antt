@@ -6,6 +6,7 @@ use Rattle.class_model.specs.declared.class.Class.{Class}
 use Rattle.class_model.specs.declared.class.ClassId.{ClassId}
 use Rattle.class_link.specs.Info.{Info, file_in}
 use Rattle.mutator_ops.specs.Programs.{file_at, files_among, mutants_among, mutants}
+use Rattle.mutator_ops.specs.Table.{mutators}
 use Rattle.suite_runs.specs.Below.{HaveFirstNumbers}
 use Rattle.mutest_engine.specs.Numbers.{numbers_from, numbers_of}
 
@@ -39,8 +40,8 @@ by_number p [] = refl
 by_number p (id ∷ ids) = ap (cons_option (file_at p id)) (by_number p ids)
 
 -- The mutants of the first classes of a program.
-pub first_mutants : (p : List Info) (ids : List ClassId) (cs others : List Class) → HaveFirstNumbers p (cs ++ others) → numbers_of ids ≡ numbers_from 0 (length cs) → mutants p ids ≡ mutants_among cs
+pub first_mutants : (p : List Info) (ids : List ClassId) (cs others : List Class) → HaveFirstNumbers p (cs ++ others) → numbers_of ids ≡ numbers_from 0 (length cs) → mutants p ids ≡ mutants_among mutators cs
 first_mutants p ids cs others are first =
-    ap mutants_among
+    ap (mutants_among mutators)
     (by_number p ids ∙ ap (filter_map (λ k. option_and_then file_in (slice_get p k))) first
     ∙ gathered (λ k. option_and_then file_in (slice_get p k)) 0 cs others (λ j lt. ap (λ k. option_and_then file_in (slice_get p k)) (let e : 0 + j ≡ j = omega arith in e) ∙ are j lt))

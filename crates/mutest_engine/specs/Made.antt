@@ -5,6 +5,7 @@ use Rattle.class_model.specs.declared.class.ClassId.{ClassId}
 use Rattle.class_link.specs.Info.{Info}
 use Rattle.class_table.specs.declared.scripted.Test.{Test}
 use Rattle.mutator_ops.specs.Programs.{mutants_among, mutants}
+use Rattle.mutator_ops.specs.Table.{mutators}
 use Rattle.mutator_ops.specs.declared.mutant.Mutant.{Mutant}
 use Rattle.suite_runs.specs.Below.{HoldsFiles, Suite, IsAccepted, bytes_of, IsReady}
 use Rattle.suite_runs.specs.Below.{classes_in}
@@ -28,7 +29,7 @@ AreFirstMutants p count ms =
 
 -- The mutants of a suite are those of its classes folder, in the order of the classes' names.
 abbrev pub mutants_of : LoadedSuite → List Mutant
-mutants_of s = mutants_among (classes_in s.classes)
+mutants_of s = mutants_among mutators (classes_in s.classes)
 
 -- More than 262,144 mutants are refused.
 abbrev pub refuse_many_mutants : ℕ → Result (Unit {0}) Refusal

@@ -1,10 +1,10 @@
 -- The program that a mutant's edit makes is the program with one instruction edited.
 use Rattle.std.proofs.Common.{◌≡◌, ◌≢◌, ◌∙◌, refl, sym, ap, subst, ℕ, ◌-◌, Bool, true, false, List, [], ◌∷◌, ◌++◌, length, map, All, Option, None, Some, arith, ⊎_elim}
-use Rattle.std.specs.List.{AllByRecursion, Contains}
+use Rattle.std.specs.List.{AllByRecursion}
 use Rattle.std.specs.Prelude.{◌==◌, slice_get, option_and_then, if◌then◌else◌}
 use Rattle.std.specs.Option.{option_map}
 use Rattle.std.specs.Cmp.Lexicographic.{same_text, other_text}
-use Rattle.std.proofs.lemmas.List.Elements.{All-get_or, All-contains, recursion_from_All}
+use Rattle.std.proofs.lemmas.List.Elements.{All-get_or, recursion_from_All}
 use Rattle.std.proofs.lemmas.Option.{slice_get-map, slice_get_within, get_or_from_slice_get}
 use Rattle.class_model.specs.declared.attribute.Attr.{Attr}
 use Rattle.class_model.specs.declared.attribute.Body.{Body}
@@ -30,9 +30,9 @@ use Rattle.class_link.specs.Linking.{link}
 use Rattle.class_link.specs.Opcodes.{instruction_by, instruction_in}
 use Rattle.class_link.specs.Symbols.{Symbol, name_or_empty, symbol_at}
 use Rattle.class_table.specs.Table.{class_at, number_of, look}
-use Rattle.mutator_ops.specs.Laws.{IsMutant, ListedExactly}
+use Rattle.mutator_ops.specs.Laws.{IsMutant}
 use Rattle.mutator_ops.specs.Mutants as listed
-use Rattle.mutator_ops.specs.declared.change.Change.{Change}
+use Rattle.mutator_ops.specs.Table.{all_mutators}
 use Rattle.mutator_ops.specs.declared.change.Change.TheVariants as change
 use Rattle.mutator_ops.specs.declared.mutant.Mutant.{Mutant}
 use Rattle.mt_attrs.specs.Attributes.{attr_after}
@@ -51,21 +51,21 @@ use Rattle.class_writer.specs.Writing.{HasClassForm, HasMemberForm, IsNamedMetho
 use Rattle.mutant_apply.specs.Spelled.{SpelledIsNamed}
 use Rattle.mutant_apply.specs.Entries.{◌>>=◌}
 use Rattle.mutant_apply.specs.Edited.{applied, mover, named_code, edited_code, class_with}
-use Rattle.mutant_apply.specs.Fitting.{FitsInsn, FitsCode, Fits}
-use Rattle.mutant_apply.specs.Laws.{IsMade, AppliedIsMade, MutantsFit}
+use Rattle.mutant_apply.specs.Fitting.{FitsInsn, FitsCode, Fits, makes_no_arrays, puts_no_arrays, IsFittingMutant}
+use Rattle.mutant_apply.specs.Laws.{IsMade, AppliedIsMade}
 use Rattle.mutant_apply.specs.declared.parts.Parts.{Parts}
 use Rattle.mutant_apply.proofs.CodeForms.{new_length}
 use Rattle.mutant_apply.proofs.Keeping.{edited_is, code_of_form}
 use Rattle.mutant_apply.proofs.Lists.{all_at}
 use Rattle.mutant_apply.proofs.NamesKept.{same_names}
 use Rattle.suite_program.specs.Below.{files_of, with_class, edited}
-use Rattle.suite_laws.specs.Edited.{AreMeant, puts_int_jump, IsEditOf, IsSmoothEditOf, MutantsAreEdits, IntJumpsGoOn}
+use Rattle.suite_laws.specs.Edited.{AreMeant, puts_int_jump, ExchangesJumps, IsEditOf, IsSmoothEditOf, MutantsAreEdits, IntJumpsGoOn}
 use Rattle.suite_laws.proofs.Recoded.{IsRecoded, code_by, linked_edit, class_edited}
 use Rattle.suite_laws.proofs.Jumps.{is_alike, with_op, goes_on_alike}
 use Rattle.suite_laws.proofs.Linked as plain
 use Rattle.suite_laws.proofs.Linked.{new_code, recoded, linked_declares, linked_body, is_recoded}
-use Rattle.suite_laws.proofs.Listed.{exchanges, new_others}
-use Rattle.suite_laws.proofs.Meant.{is_other, is_other_new, other_by, others_made, all_meant}
+use Rattle.suite_laws.proofs.Listed.{exchanges}
+use Rattle.suite_laws.proofs.Meant.{other_by, others_made, all_meant}
 
 -- ---- the class of a name
 
@@ -182,7 +182,7 @@ module _ (law : AppliedIsMade) (p : List Info) (p' : Look) (c : Class) (infos : 
 
   -- the mutant by which an instruction has another opcode
   abbrev exchanged : Member → Code → ℕ → ℕ → Insn → Mutator → ℕ → Mutant
-  exchanged member code number at insn by op = listed.mutant_of (listed.place_in (own_name c) c.pool number member code) at insn by (change.Opcode op)
+  exchanged member code number at insn by op = listed.mutant_of (listed.place_of c number member code) at insn by (change.Opcode op)
 
   edit_at : (member : Member) (code : Code) (number at : ℕ) (insn : Insn) (by : Mutator) (op : ℕ) → slice_get c.methods number ≡ Some member → listed.code_of member.attrs ≡ Some code → slice_get (out-Code code).insns at ≡ Some insn
       → (op == 0xc5) ≡ false → ((means : ℕ → Symbol) → is_alike (instruction_by means insn) (instruction_by means (with_op insn op)) ≡ true)
@@ -213,18 +213,18 @@ module _ (law : AppliedIsMade) (p : List Info) (p' : Look) (c : Class) (infos : 
         goes_on = goes_on_alike e (look p) p' changed old stands (like (symbol_at c.pool));
       }
 
-  smooth_edit : (m : Mutant) → IsMutant c m → puts_int_jump m.edit.with ≡ true → files_of p m.class ≡ Some c → edited (files_of p) (look p) m ≡ Some p' → IsSmoothEditOf m (look p) p'
+  smooth_edit : (m : Mutant) → IsMutant all_mutators c m → puts_int_jump m.edit.with ≡ true → files_of p m.class ≡ Some c → edited (files_of p) (look p) m ≡ Some p' → IsSmoothEditOf m (look p) p'
   smooth_edit m x jumps found made =
-      let e = exchanges m.mutator (listed.asked_of c.pool x.member) x.insn x.change x.applies (sym (ap (λ k. puts_int_jump k.edit.with) x.is) ∙ jumps) in
-      let is : m ≡ exchanged x.member x.code m.edit.method m.at x.insn m.mutator e.op = x.is ∙ ap (λ made. listed.mutant_of (listed.place_in (own_name c) c.pool m.edit.method x.member x.code) m.at x.insn m.mutator made) e.is in
+      let e = exchanges m.mutator (listed.asked_of c.pool x.member) _ x.insn x.change x.applies (sym (ap (λ k. puts_int_jump k.edit.with) x.is) ∙ jumps) in
+      let is : m ≡ exchanged x.member x.code m.edit.method m.at x.insn m.mutator e.op = x.is ∙ ap (λ made. listed.mutant_of (listed.place_of c m.edit.method x.member x.code) m.at x.insn m.mutator made) e.is in
       subst (λ k. IsSmoothEditOf k (look p) p') (sym is)
       (edit_at x.member x.code m.edit.method m.at x.insn m.mutator e.op x.declared x.coded x.stands e.other e.like (subst (λ k. files_of p k.class ≡ Some c) is found) (subst (λ k. edited (files_of p) (look p) k ≡ Some p') is made))
 
   -- ---- each mutant of a class that has a spelling
 
-  -- the mutant by which an instruction is changed so
-  abbrev changed_by : Member → Code → ℕ → ℕ → Insn → Mutator → Change → Mutant
-  changed_by member code number at insn by change = listed.mutant_of (listed.place_in (own_name c) c.pool number member code) at insn by change
+  -- the mutant of an edit of a method with this code
+  abbrev edited_so : Member → Code → Mutator → Edit → Mutant
+  edited_so member code by edit = listed.mutant_with (listed.place_of c edit.method member code) by edit
 
   module _ (spelled : IsClass c) (named : IsNamedClass c) (form : HasClassForm c) where
     -- what is known of the method with this code
@@ -243,7 +243,7 @@ module _ (law : AppliedIsMade) (p : List Info) (p' : Look) (c : Class) (infos : 
         }
 
     -- the edited program, by the instructions that are put there
-    edited_by : (member : Member) (code : Code) (at : ℕ) (insn : Insn) (m : Mutant) (parts : Parts) (new : List Insn) → IsRecoded c member code m.edit.method → slice_get (out-Code code).insns m.edit.at ≡ Some insn → length new ≡ length m.edit.with → m.edit.with ≢ [] → AllByRecursion (λ insn. is_other insn ≡ true) new
+    edited_by : (member : Member) (code : Code) (at : ℕ) (insn : Insn) (m : Mutant) (parts : Parts) (new : List Insn) → IsRecoded c member code m.edit.method → slice_get (out-Code code).insns m.edit.at ≡ Some insn → length new ≡ length m.edit.with → m.edit.with ≢ [] → AllByRecursion (λ insn. makes_no_arrays insn ≡ true) new
         → parts ≡ record { code = code_by m.edit code new; added = parts.added } → look p (own_name c) ≡ Some (link c) → p' ≡ with_class (class_with m.edit c parts) (look p)
         → (e : edit.Edit) × edit.IsEdited e (look p) p' × ((e.class ≡ own_name c) × (e.method ≡ m.edit.method) × (e.at ≡ m.edit.at) × AreMeant (e.first ∷ e.rest))
     unfolding link
@@ -275,12 +275,12 @@ module _ (law : AppliedIsMade) (p : List Info) (p' : Look) (c : Class) (infos : 
           (refl, refl, refl, all_meant (c.pool ++ parts.added) (first ∷ rest) other),
         )
 
-    change_at : (member : Member) (code : Code) (number at : ℕ) (insn : Insn) (by : Mutator) (change : Change) → slice_get c.methods number ≡ Some member → listed.code_of member.attrs ≡ Some code → slice_get (out-Code code).insns at ≡ Some insn
-        → (changed_by member code number at insn by change).edit.with ≢ [] → AllByRecursion (λ by. is_other_new by ≡ true) (changed_by member code number at insn by change).edit.with → files_of p (own_name c) ≡ Some c → edited (files_of p) (look p) (changed_by member code number at insn by change) ≡ Some p' → IsEditOf (changed_by member code number at insn by change) (look p) p'
-    change_at member code number at insn by change declares coded stood some other found made =
-        let m = changed_by member code number at insn by change in
+    change_at : (member : Member) (code : Code) (insn : Insn) (by : Mutator) (e : Edit) → slice_get c.methods e.method ≡ Some member → listed.code_of member.attrs ≡ Some code → slice_get (out-Code code).insns e.at ≡ Some insn
+        → e.with ≢ [] → AllByRecursion (λ by. puts_no_arrays by ≡ true) e.with → files_of p (own_name c) ≡ Some c → edited (files_of p) (look p) (edited_so member code by e) ≡ Some p' → IsEditOf (edited_so member code by e) (look p) p'
+    change_at member code insn by e declares coded stood some other found made =
+        let m = edited_so member code by e in
         let had : look p (own_name c) ≡ Some (link c) = look_file p (own_name c) c infos found in
-        let known = recoded_at member code number declares coded in
+        let known = recoded_at member code e.method declares coded in
         let k = made_program p p' c m law found made in
         let parts = k.1.parts in
         let here : named_code m.edit c ≡ Some code = ap (option_and_then (λ member. listed.code_of member.attrs)) declares ∙ coded in
@@ -288,33 +288,31 @@ module _ (law : AppliedIsMade) (p : List Info) (p' : Look) (c : Class) (infos : 
         let ed = edited_is c.pool m.edit code parts made_code in
         let is : parts ≡ record { code = code_by m.edit code ed.new.0; added = parts.added } = ap (λ x. record { code = x; added = parts.added }) ed.is in
         let program : p' ≡ with_class (class_with m.edit c parts) (look p) = k.2 ∙ ap (λ x. with_class x (look p)) k.1.is in
-        let x = edited_by member code at insn m parts ed.new.0 known stood (new_length c.pool (mover m.edit) m.edit.with [] ed.new ed.made) some (others_made c.pool (mover m.edit) m.edit.with [] ed.new other ed.made) is had program in
+        let x = edited_by member code e.at insn m parts ed.new.0 known stood (new_length c.pool (mover m.edit) m.edit.with [] ed.new ed.made) some (others_made c.pool (mover m.edit) m.edit.with [] ed.new other ed.made) is had program in
         let method : method_in (look p x.0.class) x.0.method ≡ Some (linking.method_in c.pool member) =
-        ap (λ n. method_in (look p n) x.0.method) x.2.0 ∙ ap (method_in (look p (own_name c))) x.2.1 ∙ ap (λ o. method_in o number) had ∙ linked_declares c member code number declares coded in
+        ap (λ n. method_in (look p n) x.0.method) x.2.0 ∙ ap (method_in (look p (own_name c))) x.2.1 ∙ ap (λ o. method_in o e.method) had ∙ linked_declares c member code e.method declares coded in
         record {
           edit = x.0;
           edited = x.1;
           class = x.2.0;
           method = x.2.1;
           at = x.2.2;
-          line = ap (λ o. line_in (code_of o) x.0.at) method ∙ ap (λ b. line_in (code_in b) x.0.at) (linked_body c member code number declares coded) ∙ ap (line_in (Some (linking.code_in c.pool code))) x.2.2;
+          line = ap (λ o. line_in (code_of o) x.0.at) method ∙ ap (λ b. line_in (code_in b) x.0.at) (linked_body c member code e.method declares coded) ∙ ap (line_in (Some (linking.code_in c.pool code))) x.2.2;
           place = ap (λ o. record { class = x.0.class; method = method_text o; at = x.0.at }) method ∙ ap (λ n. record { class = n; method = method_text (Some (linking.method_in c.pool member)); at = x.0.at }) x.2.0 ∙ ap (placed (method_text (Some (linking.method_in c.pool member)))) x.2.2;
           meant = x.2.3;
         }
 
-    is_edit : MutantsFit → (m : Mutant) → IsMutant c m → Contains (listed.class_mutants c) m → files_of p m.class ≡ Some c → edited (files_of p) (look p) m ≡ Some p' → IsEditOf m (look p) p'
-    is_edit fit m x inside found made =
-        let fits : Fits c m.edit = All-contains (λ k. Fits c k.edit) (listed.class_mutants c) m (fit c form) inside in
-        let some : m.edit.with ≢ [] = puts_some c m.edit fits in
+    is_edit : (m : Mutant) → IsFittingMutant c m → files_of p m.class ≡ Some c → edited (files_of p) (look p) m ≡ Some p' → IsEditOf m (look p) p'
+    is_edit m x found made =
         let is = x.is in
         subst (λ k. IsEditOf k (look p) p') (sym is)
-        (change_at x.member x.code m.edit.method m.at x.insn m.mutator x.change x.declared x.coded x.stands (subst (λ k. k.edit.with ≢ []) is some) (new_others m.mutator (listed.asked_of c.pool x.member) x.insn x.change x.applies) (subst (λ k. files_of p k.class ≡ Some c) is found) (subst (λ k. edited (files_of p) (look p) k ≡ Some p') is made))
+        (change_at x.member x.code x.insn m.mutator m.edit x.declared x.coded x.stands (puts_some c m.edit x.fits) x.plain (subst (λ k. files_of p k.class ≡ Some c) is found) (subst (λ k. edited (files_of p) (look p) k ≡ Some p') is made))
 
-pub int_jumps_go_on : ListedExactly → AppliedIsMade → IntJumpsGoOn
-int_jumps_go_on exactly law p m p' y jumps = smooth_edit law p p' y.file y.infos m ((exactly y.file m).0 y.listed) jumps y.found y.made
+pub int_jumps_go_on : AppliedIsMade → IntJumpsGoOn
+int_jumps_go_on law p m p' y jumps = smooth_edit law p p' y.file y.infos m jumps.mutant jumps.puts y.found y.made
 
-pub mutants_are_edits : ListedExactly → AppliedIsMade → SpelledIsNamed → SpelledIsWritten → MutantsFit → MutantsAreEdits
-mutants_are_edits exactly law named written fit p m p' y =
-    ⊎_elim (λ jumps. (int_jumps_go_on exactly law p m p' y jumps).of)
-    (λ spelled. is_edit law p p' y.file y.infos spelled (named y.file spelled) (written (class_bytes y.file) y.file (record { form = spelled; text = refl })).0 fit m ((exactly y.file m).0 y.listed) y.listed y.found y.made)
+pub mutants_are_edits : AppliedIsMade → SpelledIsNamed → SpelledIsWritten → MutantsAreEdits
+mutants_are_edits law named written p m p' y =
+    ⊎_elim (λ jumps. (int_jumps_go_on law p m p' y jumps).of)
+    (λ spelled. is_edit law p p' y.file y.infos spelled (named y.file spelled) (written (class_bytes y.file) y.file (record { form = spelled; text = refl })).0 m y.fitting y.found y.made)
     y.spelled

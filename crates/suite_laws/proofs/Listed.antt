@@ -1,22 +1,21 @@
 -- What is known of a mutant whose edit puts a jump on ints in the place of an instruction.
 use Rattle.std.proofs.Common.{◌≡◌, ◌∙◌, refl, sym, ap, subst, inl, inr, ⊎_elim, ℕ, Bool, true, false, List, [], ◌∷◌, ◌++◌, map, Option, None, Some, if◌then◌else◌}
 use Rattle.std.specs.Prelude.{◌==◌, ◌&&◌, ◌||◌, ◌⊎◌, not, is_none, reverse, option_and_then}
-use Rattle.std.specs.List.{AllByRecursion}
 use Rattle.std.specs.Option.{option_map}
 use Rattle.std.proofs.lemmas.Bool.{eqb-true, and_parts}
-use Rattle.class_model.specs.declared.edit.NewInsn.{NewInsn}
 use Rattle.class_model.specs.declared.instruction.Arg.{Arg}
 use Rattle.class_model.specs.declared.instruction.Arg.TheVariants as arg
 use Rattle.class_model.specs.declared.instruction.Insn.{Insn}
 use Rattle.class_model.specs.declared.kind.Kind.{Kind}
 use Rattle.class_model.specs.declared.kind.Kind.TheVariants as kind
+use Rattle.class_model.specs.declared.kind.MethodType.{MethodType}
 use Rattle.class_model.specs.declared.mutator.Mutator.{Mutator}
 use Rattle.class_model.specs.declared.mutator.Mutator.TheVariants as mutator
 use Rattle.class_link.specs.Symbols.{Symbol}
 use Rattle.class_link.specs.Opcodes.{with_operand, instruction_by}
-use Rattle.mutator_ops.specs.Calls.{called_args, is_void_call}
+use Rattle.mutator_ops.specs.Calls.{called_args, called_type, is_void_call}
 use Rattle.mutator_ops.specs.Changes.{bare, pop_of, pops, or_nop, new_insns}
-use Rattle.mutator_ops.specs.Table.{Asked, when, opcode_for, bounds, opposites, operations, exchange, negated, class_given, gives_boolean, gives_number, gives_long, empty_value, is_boolean_class, returned_class, empty_return, boxed_truth, truth, null_return, row}
+use Rattle.mutator_ops.specs.Table.{Asked, when, opcode_for, bounds, opposites, operations, operand_pops, zero_of, given_zero, exchange, negated, gives_boolean, gives_number, gives_long, empty_value, is_boolean_class, returned_class, empty_return, boxed_truth, truth, null_return, row}
 use Rattle.mutator_ops.specs.declared.change.Change.{Change}
 use Rattle.mutator_ops.specs.declared.change.Change.TheVariants as change
 use Rattle.mutator_ops.specs.declared.change.Value.{Value}
@@ -24,7 +23,6 @@ use Rattle.mutator_ops.specs.declared.change.Value.TheVariants as value
 use Rattle.mutator_ops.specs.declared.change.Callee.TheVariants as callee
 use Rattle.suite_laws.specs.Edited.{is_int_jump, puts_int_jump}
 use Rattle.suite_laws.proofs.Jumps.{is_alike, is_on_int, is_on_ints, with_op}
-use Rattle.suite_laws.proofs.Meant.{is_other_new, other_by}
 
 -- ---- rows that exchange opcodes
 
@@ -115,9 +113,27 @@ returns : (v : Value) → is_exchange (Some (change.Returns v)) ≡ false
 unfolding is_exchange
 returns v = refl
 
-plain : (is_exchange (Some change.Nothing) ≡ false) × (is_exchange (Some change.Pops) ≡ false)
+alone : (op : ℕ) → is_exchange (Some (change.Alone op)) ≡ false
 unfolding is_exchange
-plain = (refl, refl)
+alone op = refl
+
+calls : (is_exchange (Some change.Pops) ≡ false) × (is_exchange (Some change.Unmakes) ≡ false)
+unfolding is_exchange
+calls = (refl, refl)
+
+not_popped : (o : Option ℕ) → is_exchange (option_map change.Alone o) ≡ false
+unfolding is_exchange
+not_popped None = refl
+not_popped (Some op) = refl
+
+not_result : (o : Option Kind) → is_exchange (option_map (λ given. change.Gives (zero_of given)) o) ≡ false
+unfolding is_exchange
+not_result None = refl
+not_result (Some given) = refl
+
+not_called : (o : Option MethodType) → is_exchange (option_and_then given_zero o) ≡ false
+not_called None = none
+not_called (Some t) = not_result t.ret
 
 not_truth : (constant : ℕ) (asked : Asked) (insn : Insn) → is_exchange (truth constant asked insn) ≡ false
 not_truth constant asked insn =
@@ -132,43 +148,46 @@ no_exchange o op never h = let clash : false ≡ true = sym never ∙ ap is_exch
 -- ---- the rows
 
 -- an exchange of opcodes is by one of three tables
-row_in : (P : ℕ → Type 0) (by : Mutator) (asked : Asked) (insn : Insn) (op : ℕ)
+row_in : (P : ℕ → Type 0) (by : Mutator) (asked : Asked) (closes : Bool) (insn : Insn) (op : ℕ)
     → ((pairs : List (ℕ × ℕ)) → (pairs ≡ bounds) ⊎ ((pairs ≡ operations) ⊎ (pairs ≡ opposites)) → exchange pairs insn ≡ Some (change.Opcode op) → P op)
-    → row by asked insn ≡ Some (change.Opcode op) → P op
-row_in P mutator.ConditionalsBoundary asked insn op go h = go bounds (inl refl) h
-row_in P mutator.Increments asked insn op go h =
-    absurd (no_exchange (row mutator.Increments asked insn) op (not_either (insn.op == 0x84) (negated insn.arg) None (not_negated insn.arg) none) h)
-row_in P mutator.InvertNegs asked insn op go h =
-    absurd (no_exchange (row mutator.InvertNegs asked insn) op (not_when (insn.op == 0x74 || insn.op == 0x75) change.Nothing plain.0) h)
-row_in P mutator.Math asked insn op go h = go operations (inr (inl refl)) h
-row_in P mutator.NegateConditionals asked insn op go h = go opposites (inr (inr refl)) h
-row_in P mutator.VoidMethodCalls asked insn op go h =
-    absurd (no_exchange (row mutator.VoidMethodCalls asked insn) op (not_when (is_void_call asked.pool insn) change.Pops plain.1) h)
-row_in P mutator.EmptyReturns asked insn op go h =
-    absurd (no_exchange (row mutator.EmptyReturns asked insn) op (not_given empty_return (returned_class asked insn) (λ class. not_returned (empty_value class))) h)
-row_in P mutator.FalseReturns asked insn op go h = absurd (no_exchange (row mutator.FalseReturns asked insn) op (not_truth 0x03 asked insn) h)
-row_in P mutator.TrueReturns asked insn op go h = absurd (no_exchange (row mutator.TrueReturns asked insn) op (not_truth 0x04 asked insn) h)
-row_in P mutator.NullReturns asked insn op go h =
-    absurd (no_exchange (row mutator.NullReturns asked insn) op
+    → row by asked closes insn ≡ Some (change.Opcode op) → P op
+row_in P mutator.ConditionalsBoundary asked closes insn op go h = go bounds (inl refl) h
+row_in P mutator.Increments asked closes insn op go h =
+    absurd (no_exchange (row mutator.Increments asked closes insn) op (not_either (insn.op == 0x84) (negated insn.arg) None (not_negated insn.arg) none) h)
+row_in P mutator.InvertNegs asked closes insn op go h =
+    absurd (no_exchange (row mutator.InvertNegs asked closes insn) op (not_when (insn.op == 0x74 || insn.op == 0x75) (change.Alone 0x00) (alone 0x00)) h)
+row_in P mutator.Math asked closes insn op go h = go operations (inr (inl refl)) h
+row_in P mutator.NegateConditionals asked closes insn op go h = go opposites (inr (inr refl)) h
+row_in P mutator.VoidMethodCalls asked closes insn op go h =
+    absurd (no_exchange (row mutator.VoidMethodCalls asked closes insn) op (not_when (is_void_call asked.pool insn) change.Pops calls.0) h)
+row_in P mutator.EmptyReturns asked closes insn op go h =
+    absurd (no_exchange (row mutator.EmptyReturns asked closes insn) op (not_given empty_return (returned_class asked insn) (λ class. not_returned (empty_value class))) h)
+row_in P mutator.FalseReturns asked closes insn op go h = absurd (no_exchange (row mutator.FalseReturns asked closes insn) op (not_truth 0x03 asked insn) h)
+row_in P mutator.TrueReturns asked closes insn op go h = absurd (no_exchange (row mutator.TrueReturns asked closes insn) op (not_truth 0x04 asked insn) h)
+row_in P mutator.NullReturns asked closes insn op go h =
+    absurd (no_exchange (row mutator.NullReturns asked closes insn) op
     (not_given (null_return asked) (returned_class asked insn) (λ class. not_when (not asked.is_not_null && is_none (empty_value class) && not (is_boolean_class class)) (change.Returns (value.Constant 0x01)) (returns (value.Constant 0x01)))) h)
-row_in P mutator.PrimitiveReturns asked insn op go h =
-    absurd (no_exchange (row mutator.PrimitiveReturns asked insn) op
+row_in P mutator.PrimitiveReturns asked closes insn op go h =
+    absurd (no_exchange (row mutator.PrimitiveReturns asked closes insn) op
     (not_either (insn.op == 0xac) (when (gives_number asked.gives) (change.Returns (value.Constant 0x03))) (when (insn.op == 0xad && gives_long asked.gives) (change.Returns (value.Constant 0x09)))
     (not_when (gives_number asked.gives) (change.Returns (value.Constant 0x03)) (returns (value.Constant 0x03)))
     (not_when (insn.op == 0xad && gives_long asked.gives) (change.Returns (value.Constant 0x09)) (returns (value.Constant 0x09)))) h)
-row_in P mutator.NonVoidMethodCalls asked insn op go h = absurd cc
-row_in P mutator.ConstructorCalls asked insn op go h = absurd cc
-row_in P mutator.RemoveConditionals asked insn op go h = absurd cc
+row_in P mutator.NonVoidMethodCalls asked closes insn op go h =
+    absurd (no_exchange (row mutator.NonVoidMethodCalls asked closes insn) op (not_called (called_type asked.pool insn)) h)
+row_in P mutator.ConstructorCalls asked closes insn op go h =
+    absurd (no_exchange (row mutator.ConstructorCalls asked closes insn) op (not_when closes change.Unmakes calls.1) h)
+row_in P mutator.RemoveConditionals asked closes insn op go h =
+    absurd (no_exchange (row mutator.RemoveConditionals asked closes insn) op (not_popped (opcode_for operand_pops insn.op)) h)
 
 kept_in : (means : ℕ → Symbol) (a : Arg) (pairs : List (ℕ × ℕ)) → (pairs ≡ bounds) ⊎ ((pairs ≡ operations) ⊎ (pairs ≡ opposites)) → all_pairs (is_kept means a) pairs ≡ true
 kept_in means a pairs k =
     ⊎_elim (λ e. subst (λ xs. all_pairs (is_kept means a) xs ≡ true) (sym e) (bounds_kept means a))
     (λ k. ⊎_elim (λ e. subst (λ xs. all_pairs (is_kept means a) xs ≡ true) (sym e) (operations_kept means a)) (λ e. subst (λ xs. all_pairs (is_kept means a) xs ≡ true) (sym e) (opposites_kept means a)) k) k
 
-row_alike : (means : ℕ → Symbol) (by : Mutator) (asked : Asked) (insn : Insn) (op : ℕ) → row by asked insn ≡ Some (change.Opcode op) → is_int_jump op ≡ true
+row_alike : (means : ℕ → Symbol) (by : Mutator) (asked : Asked) (closes : Bool) (insn : Insn) (op : ℕ) → row by asked closes insn ≡ Some (change.Opcode op) → is_int_jump op ≡ true
     → is_alike (instruction_by means insn) (instruction_by means (with_op insn op)) ≡ true
-row_alike means by asked insn op h jumps =
-    row_in (λ op. is_int_jump op ≡ true → is_alike (instruction_by means insn) (instruction_by means (with_op insn op)) ≡ true) by asked insn op
+row_alike means by asked closes insn op h jumps =
+    row_in (λ op. is_int_jump op ≡ true → is_alike (instruction_by means insn) (instruction_by means (with_op insn op)) ≡ true) by asked closes insn op
     (λ pairs k h. by_table means insn op pairs (kept_in means insn.arg pairs k) h) h jumps
 
 -- no new opcode is that of multianewarray
@@ -185,94 +204,119 @@ was_not : (b : Bool) → not b ≡ true → b ≡ false
 was_not true e = absurd cc
 was_not false e = refl
 
-row_other : (by : Mutator) (asked : Asked) (insn : Insn) (op : ℕ) → row by asked insn ≡ Some (change.Opcode op) → (op == 0xc5) ≡ false
+row_other : (by : Mutator) (asked : Asked) (closes : Bool) (insn : Insn) (op : ℕ) → row by asked closes insn ≡ Some (change.Opcode op) → (op == 0xc5) ≡ false
 unfolding is_not_c5
-row_other by asked insn op h =
-    row_in (λ op. (op == 0xc5) ≡ false) by asked insn op
+row_other by asked closes insn op h =
+    row_in (λ op. (op == 0xc5) ≡ false) by asked closes insn op
     (λ pairs k h. was_not (op == 0xc5) (found is_not_c5 pairs insn.op op (none_c5 pairs k) (opcode_was (opcode_for pairs insn.op) op h))) h
 
--- ---- the instruction before which a value is put
+-- ---- what is put there alone is no jump
 
-not_c5 : (op k : ℕ) → (op == k) ≡ true → (k == 0xc5) ≡ false → (op == 0xc5) ≡ false
-not_c5 op k e f = ap (λ n. n == 0xc5) (eqb-true op k e) ∙ f
+is_no_jump : ℕ × ℕ → Bool
+is_no_jump x = not (is_int_jump x.1)
 
-exchanged_none : (o : Option ℕ) (v : Value) → option_map change.Opcode o ≡ Some (change.Returns v) → ⊥
-exchanged_none None v h = cc
-exchanged_none (Some op) v h = cc
+none_jumps : all_pairs is_no_jump operand_pops ≡ true
+unfolding all_pairs is_no_jump
+none_jumps = refl
 
-negated_none : (b : Bool) (a : Arg) (v : Value) → (if b then negated a else None) ≡ Some (change.Returns v) → ⊥
-negated_none true (arg.Inc local by) v h = cc
-negated_none true other v h = cc
-negated_none false a v h = cc
+-- the opcode that is put there alone, or for a result, is none of a jump on ints
+puts_no_jump : Option Change → Bool
+puts_no_jump (Some (change.Alone op)) = not (is_int_jump op)
+puts_no_jump (Some (change.Gives op)) = not (is_int_jump op)
+puts_no_jump other = true
 
-nothing_none : (b : Bool) (v : Value) → when b change.Nothing ≡ Some (change.Returns v) → ⊥
-nothing_none true v h = cc
-nothing_none false v h = cc
+when_none : (b : Bool) (x : Change) → puts_no_jump (Some x) ≡ true → puts_no_jump (when b x) ≡ true
+unfolding puts_no_jump
+when_none true x h = h
+when_none false x h = refl
 
-pops_none : (b : Bool) (v : Value) → when b change.Pops ≡ Some (change.Returns v) → ⊥
-pops_none true v h = cc
-pops_none false v h = cc
+either_none : (b : Bool) (x y : Option Change) → puts_no_jump x ≡ true → puts_no_jump y ≡ true → puts_no_jump (if b then x else y) ≡ true
+either_none true x y h k = h
+either_none false x y h k = k
 
-given_case : (f : List ℕ → Option Change) (o : Option (List ℕ)) (op : ℕ) (b : Bool) (made : Change) → (op == 0xb0) ≡ b → option_and_then f (if b then o else None) ≡ Some made → (op == 0xc5) ≡ false
-given_case f o op true made e h = not_c5 op 0xb0 e refl
-given_case f o op false made e h = absurd cc
+given_none : (f : List ℕ → Option Change) (o : Option (List ℕ)) → ((class : List ℕ) → puts_no_jump (f class) ≡ true) → puts_no_jump (option_and_then f o) ≡ true
+unfolding puts_no_jump
+given_none f None h = refl
+given_none f (Some class) h = h class
 
-given_at : (f : List ℕ → Option Change) (asked : Asked) (insn : Insn) (made : Change) → option_and_then f (returned_class asked insn) ≡ Some made → (insn.op == 0xc5) ≡ false
-given_at f asked insn made h = given_case f (class_given asked.gives) insn.op (insn.op == 0xb0) made refl h
+exchanged_none : (o : Option ℕ) → puts_no_jump (option_map change.Opcode o) ≡ true
+unfolding puts_no_jump
+exchanged_none None = refl
+exchanged_none (Some op) = refl
 
-truth_case : (constant : ℕ) (asked : Asked) (insn : Insn) (made : Change) (b : Bool) → (insn.op == 0xac) ≡ b
-    → (if b then when (gives_boolean asked.gives) (change.Returns (value.Constant constant)) else option_and_then (boxed_truth constant) (returned_class asked insn)) ≡ Some made → (insn.op == 0xc5) ≡ false
-truth_case constant asked insn made true e h = not_c5 insn.op 0xac e refl
-truth_case constant asked insn made false e h = given_at (boxed_truth constant) asked insn made h
+negated_none : (a : Arg) → puts_no_jump (negated a) ≡ true
+unfolding puts_no_jump
+negated_none (arg.Inc local by) = refl
+negated_none other = refl
 
-long_case : (op : ℕ) (c : Bool) (x made : Change) (b : Bool) → (op == 0xad) ≡ b → when (b && c) x ≡ Some made → (op == 0xc5) ≡ false
-long_case op c x made true e h = not_c5 op 0xad e refl
-long_case op c x made false e h = absurd cc
+returned_none : (o : Option Value) → puts_no_jump (option_map change.Returns o) ≡ true
+unfolding puts_no_jump
+returned_none None = refl
+returned_none (Some v) = refl
 
-zero_case : (asked : Asked) (insn : Insn) (made : Change) (b : Bool) → (insn.op == 0xac) ≡ b
-    → (if b then when (gives_number asked.gives) (change.Returns (value.Constant 0x03)) else when (insn.op == 0xad && gives_long asked.gives) (change.Returns (value.Constant 0x09))) ≡ Some made → (insn.op == 0xc5) ≡ false
-zero_case asked insn made true e h = not_c5 insn.op 0xac e refl
-zero_case asked insn made false e h = long_case insn.op (gives_long asked.gives) (change.Returns (value.Constant 0x09)) made (insn.op == 0xad) refl h
+returns_none : (v : Value) → puts_no_jump (Some (change.Returns v)) ≡ true
+unfolding puts_no_jump
+returns_none v = refl
 
-returned_at : (by : Mutator) (asked : Asked) (insn : Insn) (v : Value) → row by asked insn ≡ Some (change.Returns v) → (insn.op == 0xc5) ≡ false
-returned_at mutator.ConditionalsBoundary asked insn v h = absurd (exchanged_none (opcode_for bounds insn.op) v h)
-returned_at mutator.Increments asked insn v h = absurd (negated_none (insn.op == 0x84) insn.arg v h)
-returned_at mutator.InvertNegs asked insn v h = absurd (nothing_none (insn.op == 0x74 || insn.op == 0x75) v h)
-returned_at mutator.Math asked insn v h = absurd (exchanged_none (opcode_for operations insn.op) v h)
-returned_at mutator.NegateConditionals asked insn v h = absurd (exchanged_none (opcode_for opposites insn.op) v h)
-returned_at mutator.VoidMethodCalls asked insn v h = absurd (pops_none (is_void_call asked.pool insn) v h)
-returned_at mutator.EmptyReturns asked insn v h = given_at empty_return asked insn (change.Returns v) h
-returned_at mutator.FalseReturns asked insn v h = truth_case 0x03 asked insn (change.Returns v) (insn.op == 0xac) refl h
-returned_at mutator.TrueReturns asked insn v h = truth_case 0x04 asked insn (change.Returns v) (insn.op == 0xac) refl h
-returned_at mutator.NullReturns asked insn v h = given_at (null_return asked) asked insn (change.Returns v) h
-returned_at mutator.PrimitiveReturns asked insn v h = zero_case asked insn (change.Returns v) (insn.op == 0xac) refl h
-returned_at mutator.NonVoidMethodCalls asked insn v h = absurd cc
-returned_at mutator.ConstructorCalls asked insn v h = absurd cc
-returned_at mutator.RemoveConditionals asked insn v h = absurd cc
+others_none : (puts_no_jump None ≡ true) × (puts_no_jump (Some (change.Alone 0x00)) ≡ true) × (puts_no_jump (Some change.Pops) ≡ true) × (puts_no_jump (Some change.Unmakes) ≡ true)
+unfolding puts_no_jump
+others_none = (refl, refl, refl, refl)
 
--- ---- the instructions that a change puts there
+result_none : (o : Option Kind) → puts_no_jump (option_map (λ given. change.Gives (zero_of given)) o) ≡ true
+unfolding puts_no_jump
+result_none None = refl
+result_none (Some kind.Long) = refl
+result_none (Some (kind.Ref name)) = refl
+result_none (Some other) = refl
 
-abbrev AreOther : List NewInsn → Type 0
-AreOther with = AllByRecursion (λ by. is_other_new by ≡ true) with
+called_none : (o : Option MethodType) → puts_no_jump (option_and_then given_zero o) ≡ true
+called_none None = others_none.0
+called_none (Some t) = result_none t.ret
 
-pops_other : (ops : List ℕ) → AreOther (map bare ops)
-pops_other [] = tt
-pops_other (op ∷ ops) = (refl, pops_other ops)
+popped_none : (o : Option ℕ) (op : ℕ) → opcode_for operand_pops op ≡ o → puts_no_jump (option_map change.Alone o) ≡ true
+unfolding puts_no_jump is_no_jump
+popped_none None op e = refl
+popped_none (Some new) op e = found is_no_jump operand_pops op new none_jumps e
 
-returns_other : (v : Value) (insn : Insn) → (insn.op == 0xc5) ≡ false → AreOther (new_insns [] (change.Returns v) insn)
-returns_other (value.Constant op) insn e = (refl, (refl, (other_by insn e, tt)))
-returns_other value.EmptyText insn e = (refl, (refl, (other_by insn e, tt)))
-returns_other (value.Empty callee) insn e = (refl, (refl, (other_by insn e, tt)))
-returns_other (value.Boxed op callee) insn e = (refl, (refl, (refl, (other_by insn e, tt))))
+truth_none : (constant : ℕ) (asked : Asked) (insn : Insn) → puts_no_jump (truth constant asked insn) ≡ true
+truth_none constant asked insn =
+    either_none (insn.op == 0xac) (when (gives_boolean asked.gives) (change.Returns (value.Constant constant))) (option_and_then (boxed_truth constant) (returned_class asked insn))
+    (when_none (gives_boolean asked.gives) (change.Returns (value.Constant constant)) (returns_none (value.Constant constant)))
+    (given_none (boxed_truth constant) (returned_class asked insn) (λ class. when_none (is_boolean_class class) (change.Returns (value.Boxed constant callee.BoxedBoolean)) (returns_none (value.Boxed constant callee.BoxedBoolean))))
 
-pub new_others : (by : Mutator) (asked : Asked) (insn : Insn) (made : Change) → row by asked insn ≡ Some made → AreOther (new_insns asked.pool made insn)
-new_others by asked insn (change.Opcode op) h = (other_by (with_op insn op) (row_other by asked insn op h), tt)
-new_others by asked insn (change.Increment local n) h = (refl, tt)
-new_others by asked insn change.Nothing h = (refl, tt)
-new_others by asked insn change.Pops h = pops_other (or_nop (pops insn.op (called_args asked.pool insn)))
-new_others by asked insn (change.Returns v) h = returns_other v insn (returned_at by asked insn v h)
+row_none : (by : Mutator) (asked : Asked) (closes : Bool) (insn : Insn) → puts_no_jump (row by asked closes insn) ≡ true
+row_none mutator.ConditionalsBoundary asked closes insn = exchanged_none (opcode_for bounds insn.op)
+row_none mutator.Increments asked closes insn = either_none (insn.op == 0x84) (negated insn.arg) None (negated_none insn.arg) others_none.0
+row_none mutator.InvertNegs asked closes insn = when_none (insn.op == 0x74 || insn.op == 0x75) (change.Alone 0x00) others_none.1.0
+row_none mutator.Math asked closes insn = exchanged_none (opcode_for operations insn.op)
+row_none mutator.NegateConditionals asked closes insn = exchanged_none (opcode_for opposites insn.op)
+row_none mutator.VoidMethodCalls asked closes insn = when_none (is_void_call asked.pool insn) change.Pops others_none.1.1.0
+row_none mutator.EmptyReturns asked closes insn = given_none empty_return (returned_class asked insn) (λ class. returned_none (empty_value class))
+row_none mutator.FalseReturns asked closes insn = truth_none 0x03 asked insn
+row_none mutator.TrueReturns asked closes insn = truth_none 0x04 asked insn
+row_none mutator.NullReturns asked closes insn =
+    given_none (null_return asked) (returned_class asked insn) (λ class. when_none (not asked.is_not_null && is_none (empty_value class) && not (is_boolean_class class)) (change.Returns (value.Constant 0x01)) (returns_none (value.Constant 0x01)))
+row_none mutator.PrimitiveReturns asked closes insn =
+    either_none (insn.op == 0xac) (when (gives_number asked.gives) (change.Returns (value.Constant 0x03))) (when (insn.op == 0xad && gives_long asked.gives) (change.Returns (value.Constant 0x09)))
+    (when_none (gives_number asked.gives) (change.Returns (value.Constant 0x03)) (returns_none (value.Constant 0x03)))
+    (when_none (insn.op == 0xad && gives_long asked.gives) (change.Returns (value.Constant 0x09)) (returns_none (value.Constant 0x09)))
+row_none mutator.NonVoidMethodCalls asked closes insn = called_none (called_type asked.pool insn)
+row_none mutator.ConstructorCalls asked closes insn = when_none closes change.Unmakes others_none.1.1.1
+row_none mutator.RemoveConditionals asked closes insn = popped_none (opcode_for operand_pops insn.op) insn.op refl
 
 -- ---- changes
+
+negates : (b : Bool) → not b ≡ true → b ≡ false
+negates true e = absurd cc
+negates false e = refl
+
+alone_only : (by : Mutator) (asked : Asked) (closes : Bool) (insn : Insn) (op : ℕ) → row by asked closes insn ≡ Some (change.Alone op) → is_int_jump op ≡ false
+unfolding puts_no_jump
+alone_only by asked closes insn op h = negates (is_int_jump op) (sym (ap puts_no_jump h) ∙ row_none by asked closes insn)
+
+gives_only : (by : Mutator) (asked : Asked) (closes : Bool) (insn : Insn) (op : ℕ) → row by asked closes insn ≡ Some (change.Gives op) → is_int_jump op ≡ false
+unfolding puts_no_jump
+gives_only by asked closes insn op h = negates (is_int_jump op) (sym (ap puts_no_jump h) ∙ row_none by asked closes insn)
 
 pop_only : (k : Kind) → puts_int_jump (bare (pop_of k) ∷ []) ≡ false
 pop_only kind.Long = refl
@@ -284,6 +328,16 @@ pops_only [] false = refl
 pops_only (k ∷ []) true = pop_only k
 pops_only (k ∷ []) false = refl
 pops_only (k ∷ l ∷ ks) b = refl
+
+more_only : (ops : List ℕ) (op : ℕ) → is_int_jump op ≡ false → puts_int_jump (map bare (ops ++ op ∷ [])) ≡ false
+more_only [] op e = e
+more_only (o ∷ []) op e = refl
+more_only (o ∷ p ∷ ops) op e = refl
+
+two_only : (ops : List ℕ) → puts_int_jump (map bare (ops ++ 0x57 ∷ 0x01 ∷ [])) ≡ false
+two_only [] = refl
+two_only (o ∷ []) = refl
+two_only (o ∷ p ∷ ops) = refl
 
 value_only : (v : Value) (insn : Insn) → puts_int_jump (new_insns [] (change.Returns v) insn) ≡ false
 value_only (value.Constant op) insn = refl
@@ -302,9 +356,12 @@ pub record IsExchange (insn : Insn) (made : Change) : Type 0 where
 jump_or_not : {A : Type 0} (b : Bool) → b ≡ false → b ≡ true → A
 jump_or_not b never h = let clash : false ≡ true = sym never ∙ h in absurd cc
 
-pub exchanges : (by : Mutator) (asked : Asked) (insn : Insn) (made : Change) → row by asked insn ≡ Some made → puts_int_jump (new_insns asked.pool made insn) ≡ true → IsExchange insn made
-exchanges by asked insn (change.Opcode op) h jumps = record { op = op; is = refl; other = row_other by asked insn op h; like = λ means. row_alike means by asked insn op h jumps }
-exchanges by asked insn (change.Increment local n) h jumps = absurd cc
-exchanges by asked insn change.Nothing h jumps = absurd cc
-exchanges by asked insn change.Pops h jumps = jump_or_not (puts_int_jump (new_insns asked.pool change.Pops insn)) (pops_only (reverse (called_args asked.pool insn)) (insn.op == 0xb8)) jumps
-exchanges by asked insn (change.Returns v) h jumps = jump_or_not (puts_int_jump (new_insns [] (change.Returns v) insn)) (value_only v insn) jumps
+pub exchanges : (by : Mutator) (asked : Asked) (closes : Bool) (insn : Insn) (made : Change) → row by asked closes insn ≡ Some made → puts_int_jump (new_insns asked.pool made insn) ≡ true → IsExchange insn made
+exchanges by asked closes insn (change.Opcode op) h jumps = record { op = op; is = refl; other = row_other by asked closes insn op h; like = λ means. row_alike means by asked closes insn op h jumps }
+exchanges by asked closes insn (change.Increment local n) h jumps = absurd cc
+exchanges by asked closes insn (change.Alone op) h jumps = jump_or_not (is_int_jump op) (alone_only by asked closes insn op h) jumps
+exchanges by asked closes insn change.Pops h jumps = jump_or_not (puts_int_jump (new_insns asked.pool change.Pops insn)) (pops_only (reverse (called_args asked.pool insn)) (insn.op == 0xb8)) jumps
+exchanges by asked closes insn (change.Gives op) h jumps =
+    jump_or_not (puts_int_jump (new_insns asked.pool (change.Gives op) insn)) (more_only (pops insn.op (called_args asked.pool insn)) op (gives_only by asked closes insn op h)) jumps
+exchanges by asked closes insn change.Unmakes h jumps = jump_or_not (puts_int_jump (new_insns asked.pool change.Unmakes insn)) (two_only (pops insn.op (called_args asked.pool insn))) jumps
+exchanges by asked closes insn (change.Returns v) h jumps = jump_or_not (puts_int_jump (new_insns [] (change.Returns v) insn)) (value_only v insn) jumps

@@ -28,7 +28,6 @@ use Rattle.line_coverage.specs.Coverage.{reaches as covers}
 use Rattle.line_coverage.specs.Lines.{is_listed}
 use Rattle.test_select.specs.Cells.{cell, cells_of, cells}
 use Rattle.test_select.specs.declared.mutant.MutantPlace.{MutantPlace}
-use Rattle.mutator_ops.specs.Laws.{IsMutant, ListedExactly}
 use Rattle.mutator_ops.specs.declared.mutant.Mutant.{Mutant}
 use Rattle.mutator_ops.specs.declared.mutant.State.{State}
 use Rattle.mutator_ops.specs.declared.mutant.Verdict.{Verdict}
@@ -87,47 +86,46 @@ module _ (q : Limits) (limit : ℕ) (p : List Info) (m : Mutant) (safe : IsSafe 
   number : (id : ℕ) × (number_of p m.class ≡ Some id)
   number = number_case p listed.file (number_of p m.class) listed.found
 
-  module _ (exactly : ListedExactly) where
-    has_name : m.class ≡ [] → true ≡ false
-    has_name e =
-        let is : IsMutant listed.file m = (exactly listed.file m).0 listed.listed in
-        let own : m.class ≡ own_name listed.file = ap (λ (n : Mutant). n.class) is.is in
-        let fit = subst (λ o. IfSome o (λ c. HasClassForm c × Fits c m.edit × IsClass c)) listed.found listed.fit in
-        some_name listed.file fit.2 (sym own ∙ e)
+  has_name : m.class ≡ [] → true ≡ false
+  has_name e =
+      let fitting = listed.fitting in
+      let own : m.class ≡ own_name listed.file = ap (λ (n : Mutant). n.class) fitting.is in
+      let fit = subst (λ o. IfSome o (λ c. HasClassForm c × Fits c m.edit × IsClass c)) listed.found listed.fit in
+      some_name listed.file fit.2 (sym own ∙ e)
 
-    hit_case : (run : List (ClassId × ℕ)) → is_listed (number.0, m.line) run ≡ list_any (is_at m) (map (λ x. named p (x.0.0, x.1)) run)
-    hit_case [] = refl
-    hit_case (x ∷ run) =
-        ap₂ (λ b c. (b && x.1 == m.line) || c) (sym (same_number p safe.program m.class number.0 number.1 has_name x.0.0 _ _ refl refl)) (hit_case run)
+  hit_case : (run : List (ClassId × ℕ)) → is_listed (number.0, m.line) run ≡ list_any (is_at m) (map (λ x. named p (x.0.0, x.1)) run)
+  hit_case [] = refl
+  hit_case (x ∷ run) =
+      ap₂ (λ b c. (b && x.1 == m.line) || c) (sym (same_number p safe.program m.class number.0 number.1 has_name x.0.0 _ _ refl refl)) (hit_case run)
 
-    hits : (cover : Covered) (ts : List Test) (runs : List (List (ClassId × ℕ))) → AllZip (λ t run. map (λ x. named p (x.0.0, x.1)) run ≡ (before t).reached) ts runs → AllZip (Hit cover number.0 m.line reached) ts runs
-    hits cover [] [] h = tt
-    hits cover [] (run ∷ runs) h = absurd h
-    hits cover (t ∷ ts) [] h = absurd h
-    hits cover (t ∷ ts) (run ∷ runs) h = (hit_case run ∙ ap (list_any (is_at m)) h.0, hits cover ts runs h.1)
+  hits : (cover : Covered) (ts : List Test) (runs : List (List (ClassId × ℕ))) → AllZip (λ t run. map (λ x. named p (x.0.0, x.1)) run ≡ (before t).reached) ts runs → AllZip (Hit cover number.0 m.line reached) ts runs
+  hits cover [] [] h = tt
+  hits cover [] (run ∷ runs) h = absurd h
+  hits cover (t ∷ ts) [] h = absurd h
+  hits cover (t ∷ ts) (run ∷ runs) h = (hit_case run ∙ ap (list_any (is_at m)) h.0, hits cover ts runs h.1)
 
-    same_length : (ts : List Test) (runs : List (List (ClassId × ℕ))) → AllZip (λ t run. map (λ x. named p (x.0.0, x.1)) run ≡ (before t).reached) ts runs → length runs ≡ length ts
-    same_length [] [] h = refl
-    same_length [] (run ∷ runs) h = absurd h
-    same_length (t ∷ ts) [] h = absurd h
-    same_length (t ∷ ts) (run ∷ runs) h = ap suc (same_length ts runs h.1)
+  same_length : (ts : List Test) (runs : List (List (ClassId × ℕ))) → AllZip (λ t run. map (λ x. named p (x.0.0, x.1)) run ≡ (before t).reached) ts runs → length runs ≡ length ts
+  same_length [] [] h = refl
+  same_length [] (run ∷ runs) h = absurd h
+  same_length (t ∷ ts) [] h = absurd h
+  same_length (t ∷ ts) (run ∷ runs) h = ap suc (same_length ts runs h.1)
 
-    tests_are : (cover : Covered) (ts : List Test) → IsMeasured p q limit ts cover → (id : ℕ) → id ≡ number.0 → tests_at cover id m.line ≡ covering_tests ts
-    tests_are cover ts h id e =
-        ap (λ k. tests_at cover k m.line) e
-        ∙ ap (λ n. filter (covers cover number.0 m.line) (range_with_len 0 n)) (h.covers.count ∙ same_length ts h.runs h.reached)
-        ∙ numbers cover number.0 m.line reached 0 ts h.runs (λ k. ap (covers cover number.0 m.line) (omega arith) ∙ h.covers.lines number.0 m.line k) (hits cover ts h.runs h.reached)
+  tests_are : (cover : Covered) (ts : List Test) → IsMeasured p q limit ts cover → (id : ℕ) → id ≡ number.0 → tests_at cover id m.line ≡ covering_tests ts
+  tests_are cover ts h id e =
+      ap (λ k. tests_at cover k m.line) e
+      ∙ ap (λ n. filter (covers cover number.0 m.line) (range_with_len 0 n)) (h.covers.count ∙ same_length ts h.runs h.reached)
+      ∙ numbers cover number.0 m.line reached 0 ts h.runs (λ k. ap (covers cover number.0 m.line) (omega arith) ∙ h.covers.lines number.0 m.line k) (hits cover ts h.runs h.reached)
 
-    -- the numbers of the tests that cover it, by the coverage
-    pub covering_are : (cover : Covered) (ts : List Test) → IsMeasured p q limit ts cover → covering_at p cover m ≡ covering_tests ts
-    covering_are cover ts h = ap (λ o. option_map_or (λ id. tests_at cover id m.line) o []) number.1 ∙ tests_are cover ts h number.0 refl
+  -- the numbers of the tests that cover it, by the coverage
+  pub covering_are : (cover : Covered) (ts : List Test) → IsMeasured p q limit ts cover → covering_at p cover m ≡ covering_tests ts
+  covering_are cover ts h = ap (λ o. option_map_or (λ id. tests_at cover id m.line) o []) number.1 ∙ tests_are cover ts h number.0 refl
 
-    -- the tests at its place, the class given by number
-    pub placed_are : (cover : Covered) (ts : List Test) (place : MutantPlace) → IsMeasured p q limit ts cover → number_of p m.class ≡ Some place.class.0 → place.line ≡ m.line → tests_at cover place.class.0 place.line ≡ covering_tests ts
-    placed_are cover ts place h e f =
-        let both : Some place.class.0 ≡ Some number.0 = sym e ∙ number.1 in
-        let one : place.class.0 ≡ number.0 = cc in
-        ap (tests_at cover place.class.0) f ∙ tests_are cover ts h place.class.0 one
+  -- the tests at its place, the class given by number
+  pub placed_are : (cover : Covered) (ts : List Test) (place : MutantPlace) → IsMeasured p q limit ts cover → number_of p m.class ≡ Some place.class.0 → place.line ≡ m.line → tests_at cover place.class.0 place.line ≡ covering_tests ts
+  placed_are cover ts place h e f =
+      let both : Some place.class.0 ≡ Some number.0 = sym e ∙ number.1 in
+      let one : place.class.0 ≡ number.0 = cc in
+      ap (tests_at cover place.class.0) f ∙ tests_are cover ts h place.class.0 one
 
   -- ---- where it is viable
 
@@ -136,7 +134,7 @@ module _ (q : Limits) (limit : ℕ) (p : List Info) (m : Mutant) (safe : IsSafe 
     after t = edited_run p p' t q limit
 
     made : ListedAreMutated → IsMutated p m p'
-    made law = law p m p' listed.file safe.program listed.fit listed.found listed.listed (edited_case m p' (edited (files_of p) (look p) m) ok)
+    made law = law p m p' listed.file safe.program listed.fit listed.found listed.fitting (edited_case m p' (edited (files_of p) (look p) m) ok)
 
     pub is_safe : ListedAreMutated → IsSafeMutant p m p'
     is_safe law = record { safe = safe; mutated = made law; accepted = ok }
@@ -179,7 +177,7 @@ record IsNeeded (q : Limits) (p : List Info) (timed_tests : List Timed) (ks : Li
   pub steps : steps_by q (files_of p) (look p) timed_tests ks m ≡ needed_on q (files_of p) (look p) timed_tests m
   pub cells : length (if is_some (viable (files_of p) (look p) m) then ks else []) ≡ length (verdict_of q (files_of p) (look p) timed_tests m).covering
 
-module _ (mutated : ListedAreMutated) (reaching_law : ReachingIsAlike) (never : ViableAreNeverStuck) (suffice : SelectedAlwaysSuffice) (exactly : ListedExactly) where
+module _ (mutated : ListedAreMutated) (reaching_law : ReachingIsAlike) (never : ViableAreNeverStuck) (suffice : SelectedAlwaysSuffice) where
   module _ (q : Limits) (limit : ℕ) (p : List Info) (safe : IsSafe p) (whole : IsLibraryWhole (look p)) (ts : List Test) (fits : All (FitsProgram p) ts) (pass : All (λ t. (original_run p t q limit).ending ≡ With Passed) ts) where
     abbrev all_timed : List Timed
     all_timed = timed_of p q limit ts
@@ -221,7 +219,7 @@ module _ (mutated : ListedAreMutated) (reaching_law : ReachingIsAlike) (never : 
 
     module _ (cover : Covered) (measured : IsMeasured p q limit ts cover) where
       covered : (m : Mutant) → IsListed p m → IsNeeded q p all_timed (covering_at p cover m) m
-      covered m listed = subst (λ ks. IsNeeded q p all_timed ks m) (sym (covering_are q limit p m safe listed exactly cover ts measured)) (one_needed m listed)
+      covered m listed = subst (λ ks. IsNeeded q p all_timed ks m) (sym (covering_are q limit p m safe listed cover ts measured)) (one_needed m listed)
 
       -- ---- all of them
 
@@ -242,7 +240,7 @@ module _ (mutated : ListedAreMutated) (reaching_law : ReachingIsAlike) (never : 
           → length (cells_of cover (n, (place, b))) ≡ length (verdict_of q (files_of p) (look p) all_timed m).covering
       cells_case n m listed place b e f is =
           let ks = covering_tests q limit p m safe listed ts in
-          let at = placed_are q limit p m safe listed exactly cover ts place measured e f in
+          let at = placed_are q limit p m safe listed cover ts place measured e f in
           ap (λ l. length (if b then map (cell n) l else [])) at
           ∙ length_case b ks
           ∙ ap (λ c. length (if c then ks else [])) is
@@ -263,13 +261,13 @@ module _ (mutated : ListedAreMutated) (reaching_law : ReachingIsAlike) (never : 
           ∙ ap₂ (λ a c. a + c) (cells_case n m h.0 place b at.0.0 at.0.1 refl) (cells_are (n + 1) ms places h.1 at.1)
           ∙ sym (sum_by-cons (λ (v : Verdict). length v.covering) (verdict_of q (files_of p) (look p) all_timed m) (all_verdicts p q limit ts ms))
 
-pub needed : ListedAreMutated → ReachingIsAlike → ViableAreNeverStuck → SelectedAlwaysSuffice → ListedExactly → CoveringTestsAreNeeded
-needed mutated reaching_law never suffice exactly p q limit ts ms cover h =
+pub needed : ListedAreMutated → ReachingIsAlike → ViableAreNeverStuck → SelectedAlwaysSuffice → CoveringTestsAreNeeded
+needed mutated reaching_law never suffice p q limit ts ms cover h =
     let listed = recursion_from_All (IsListed p) ms h.mutants in
     record {
-      verdicts = verdicts_are mutated reaching_law never suffice exactly q limit p h.safe h.whole ts h.fits h.pass cover h.measured ms listed;
-      steps = all_steps_are mutated reaching_law never suffice exactly q limit p h.safe h.whole ts h.fits h.pass cover h.measured ms listed;
+      verdicts = verdicts_are mutated reaching_law never suffice q limit p h.safe h.whole ts h.fits h.pass cover h.measured ms listed;
+      steps = all_steps_are mutated reaching_law never suffice q limit p h.safe h.whole ts h.fits h.pass cover h.measured ms listed;
       cells = λ places bs at told.
           ap (λ l. length (cells places l cover)) told
-          ∙ cells_are mutated reaching_law never suffice exactly q limit p h.safe h.whole ts h.fits h.pass cover h.measured 0 ms places listed at;
+          ∙ cells_are mutated reaching_law never suffice q limit p h.safe h.whole ts h.fits h.pass cover h.measured 0 ms places listed at;
     }

@@ -12,11 +12,11 @@ taken_by : (m : Mutant) (o : Option Class) (file : Class) → o ≡ Some file �
 taken_by m o file e h = let q = subst (λ (x : Option Class). IfSome x (λ c. HasClassForm c × Fits c m.edit × IsClass c)) e h in q.2
 
 pub listed_are_mutated : ListedAreMutated
-listed_are_mutated p m p' file program fit found listed made = record {
+listed_are_mutated p m p' file program fit found fitting made = record {
   infos = program.meant;
   file = file;
   found = found;
-  listed = listed;
+  fitting = fitting;
   spelled = inr (taken_by m _ file found fit);
   made = made;
 }

@@ -48,8 +48,9 @@ use Rattle.class_link.specs.View.{instruction_of, linked_of}
 use Rattle.class_table.specs.Table.{look}
 use Rattle.mutator_ops.specs.Laws.{IsMutant}
 use Rattle.mutator_ops.specs.Mutants.{class_mutants}
+use Rattle.mutator_ops.specs.Table.{mutators}
 use Rattle.mutator_ops.specs.declared.mutant.Mutant.{Mutant}
-use Rattle.mutant_apply.specs.Fitting.{Fits}
+use Rattle.mutant_apply.specs.Fitting.{IsFittingMutant}
 use Rattle.mutant_apply.specs.Laws.{MutantsFit}
 use Rattle.mutant_apply.specs.Witness.{sample_file}
 use Rattle.suite_program.specs.Below.{files_of, edited, viable, with_accepted, IsMutantOf}
@@ -113,7 +114,7 @@ has_no_fault = refl
 accepted : viable (files_of sample_program) (look sample_program) sample_mutant ≡ Some sample_mutated
 accepted = ap (option_and_then (with_accepted (codes "A"))) made ∙ ap (λ (o : Option Placed). if is_some o then None else Some sample_mutated) has_no_fault
 
-mutant : IsMutant (a_jumping 0x9c) sample_mutant
+mutant : IsMutant mutators (a_jumping 0x9c) sample_mutant
 unfolding parameters_at hidden-the_row-Attr-0 shape-the_row-Attr-0 shown-the_row-Attr-0 roll-Code hidden roll shown out out-Body out-Code
 mutant = record { real = refl; member = _; declared = refl; kept = refl; code = _; coded = refl; insn = _; stands = refl; listed = (0, lit< tt, refl); change = _; applies = refl; is = refl }
 
@@ -145,16 +146,16 @@ pub premises_are_met : ReadIsSpelled → SpelledIsWritten → MutantsFit → Fau
 premises_are_met read written fit law =
     let spelled = a_spelled read in
     let form : HasClassForm (a_jumping 0x9c) = (written sample_file (a_jumping 0x9c) spelled).0 in
-    let fits = subst (λ (m : Mutant). Fits (a_jumping 0x9c) m.edit) listed.2 (fit (a_jumping 0x9c) form listed.0 sample_mutant listed.1) in
-    let of : IsMutantOf (files_of sample_program) sample_mutant = (form, fits, spelled.form) in
-    let mutated : IsMutated sample_program sample_mutant sample_mutated = listed_are_mutated sample_program sample_mutant sample_mutated (a_jumping 0x9c) program of found listed made in
+    let fitting = subst (IsFittingMutant (a_jumping 0x9c)) listed.2 (fit mutators (a_jumping 0x9c) form listed.0 sample_mutant listed.1) in
+    let of : IsMutantOf (files_of sample_program) sample_mutant = (form, fitting.fits, spelled.form) in
+    let mutated : IsMutated sample_program sample_mutant sample_mutated = listed_are_mutated sample_program sample_mutant sample_mutated (a_jumping 0x9c) program of found fitting made in
     record {
       program = program;
       whole = whole;
       spelled = All-from_recursion (λ (i : Info). IsSpelled i.body) sample_program (of_all (λ i. IsSpelled i.body) spelled (t_spelled read) tt tt (λ n. tt) (λ n. tt) (λ n. tt));
       of = of;
       found = found;
-      listed = listed;
+      fitting = fitting;
       made = made;
       accepted = accepted;
       safe = record { safe = safe.is_safe law; mutated = mutated; accepted = accepted };

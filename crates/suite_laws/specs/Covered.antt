@@ -16,7 +16,7 @@ use Rattle.mutator_ops.specs.declared.mutant.Verdict.{Verdict}
 use Rattle.suite_program.specs.Below.{files_of, viable}
 use Rattle.suite_program.specs.Below.{timed, mutant_run, reaches}
 use Rattle.suite_program.specs.Below.{verdict_by, killer, verdict_of}
-use Rattle.suite_laws.specs.Edited.{IsMutated, mutant_place, puts_int_jump}
+use Rattle.suite_laws.specs.Edited.{IsMutated, ExchangesJumps, mutant_place}
 
 -- The run of a test on a program.
 abbrev pub original_run : List Info → Test → Limits → ℕ → Ran
@@ -59,7 +59,7 @@ ReachingIsAlike =
 abbrev pub CoveringIsAlike : Type 0
 CoveringIsAlike =
     (p : List Info) (m : Mutant) (p' : Look) (t : Test) (q : Limits) (limit : ℕ) →
-    IsMutated p m p' → puts_int_jump m.edit.with ≡ true → IsLibraryWhole (look p) →
+    (y : IsMutated p m p') → ExchangesJumps y.file m → IsLibraryWhole (look p) →
     HasEnded (original_run p t q limit).ending →
     reaches m (edited_run p p' t q limit) ≡ reaches m (original_run p t q limit)
 
@@ -108,7 +108,7 @@ SelectedGive p m p' q limit tests =
 abbrev pub SelectedSuffice : Type 0
 SelectedSuffice =
     (p : List Info) (m : Mutant) (p' : Look) (q : Limits) (limit : ℕ) (tests : List Test) →
-    IsMutated p m p' → viable (files_of p) (look p) m ≡ Some p' → IsLibraryWhole (look p) →
+    (y : IsMutated p m p') → viable (files_of p) (look p) m ≡ Some p' → IsLibraryWhole (look p) →
     AllPass p q limit tests →
-    (puts_int_jump m.edit.with ≡ true) ⊎ NoneIsStuckThere p m p' q limit tests →
+    ExchangesJumps y.file m ⊎ NoneIsStuckThere p m p' q limit tests →
     SelectedGive p m p' q limit tests

@@ -16,8 +16,9 @@ use Rattle.class_link.specs.Info.{Info, IsInfo}
 use Rattle.class_table.specs.Table.{IsProgram, look}
 use Rattle.library_laws.specs.Linked.{descriptors}
 use Rattle.mutator_ops.specs.Laws.{IsMutant}
-use Rattle.mutator_ops.specs.Mutants.{class_mutants}
+use Rattle.mutator_ops.specs.Table.{mutators, all_mutators}
 use Rattle.mutator_ops.specs.declared.mutant.Mutant.{Mutant}
+use Rattle.mutant_apply.specs.Fitting.{IsFittingMutant}
 use Rattle.suite_program.specs.Below.{files_of, edited, IsMutantOf}
 
 -- The place of a mutant's instruction.
@@ -51,34 +52,39 @@ pub record IsSmoothEditOf (m : Mutant) (p p' : Look) : Type 0 where
 abbrev pub is_int_jump : ℕ → Bool
 is_int_jump op = nat_le 0x99 op && nat_le op 0xa4
 
--- An edit puts one such jump in the place of the old instruction: that of each mutant by
--- ConditionalsBoundary, and of each by NegateConditionals at an instruction that is such a jump
+-- An edit puts one such jump in the place of the old instruction: that of each mutant of the table
+-- by ConditionalsBoundary, and of each by NegateConditionals at an instruction that is such a jump
 -- too. No other mutator's edit does.
 abbrev pub puts_int_jump : List NewInsn → Bool
 puts_int_jump (Plain new ∷ []) = is_int_jump new.op
 puts_int_jump other = false
 
--- The mutant is one of a class file of the program, and its edit makes the second program. The file
--- has a spelling, as each that was read has; an edit that exchanges jumps on ints doesn't ask for
--- it, since it adds nothing to the constant pool.
+-- The mutant exchanges jumps on ints: a row of the table makes it, and puts such a jump there.
+pub record ExchangesJumps (class : Class) (m : Mutant) : Type 0 where
+  pub mutant : IsMutant all_mutators class m
+  pub puts : puts_int_jump m.edit.with ≡ true
+
+-- The mutant is one of a class file of the program, whatever made it, and its edit makes the second
+-- program. The file has a spelling, as each that was read has; a mutant that exchanges jumps on ints
+-- doesn't ask for it, since it adds nothing to the constant pool.
 pub record IsMutated (p : List Info) (m : Mutant) (p' : Look) : Type 0 where
   pub infos : All IsInfo p
   pub file : Class
   pub found : files_of p m.class ≡ Some file
-  pub listed : Contains (class_mutants file) m
-  pub spelled : (puts_int_jump m.edit.with ≡ true) ⊎ IsClass file
+  pub fitting : IsFittingMutant file m
+  pub spelled : ExchangesJumps file m ⊎ IsClass file
   pub made : edited (files_of p) (look p) m ≡ Some p'
 
--- What the run of a suite keeps is what the laws ask: of each mutant that is listed of a class file
--- of a program, where its edit is one that the class takes and makes a second program.
+-- What the run of a suite keeps is what the laws ask: of each mutant of a class file of a program,
+-- where its edit is one that the class takes and makes a second program.
 abbrev pub ListedAreMutated : Type 0
 ListedAreMutated =
     (p : List Info) (m : Mutant) (p' : Look) (file : Class) → IsProgram p →
-    IsMutantOf (files_of p) m → files_of p m.class ≡ Some file → Contains (class_mutants file) m →
+    IsMutantOf (files_of p) m → files_of p m.class ≡ Some file → IsFittingMutant file m →
     edited (files_of p) (look p) m ≡ Some p' → IsMutated p m p'
 
--- The program that a mutant's edit makes is the program with one instruction edited, whichever
--- mutator it is of and however many instructions it puts there.
+-- The program that a mutant's edit makes is the program with one instruction edited, whatever made
+-- it and however many instructions it puts there.
 abbrev pub MutantsAreEdits : Type 0
 MutantsAreEdits =
     (p : List Info) (m : Mutant) (p' : Look) → IsMutated p m p' → IsEditOf m (look p) p'
@@ -87,12 +93,12 @@ MutantsAreEdits =
 -- does.
 abbrev pub IntJumpsGoOn : Type 0
 IntJumpsGoOn =
-    (p : List Info) (m : Mutant) (p' : Look) → IsMutated p m p' →
-    puts_int_jump m.edit.with ≡ true → IsSmoothEditOf m (look p) p'
+    (p : List Info) (m : Mutant) (p' : Look) (y : IsMutated p m p') → ExchangesJumps y.file m →
+    IsSmoothEditOf m (look p) p'
 
--- Each mutant of an instruction that is a conditional jump on ints puts such a jump there, and so
--- goes on wherever that does.
+-- Each mutant of an instruction that is a conditional jump on ints, by a mutator that no option asks
+-- for, puts such a jump there, and so goes on wherever that does.
 abbrev pub IntJumpsAreExchanged : Type 0
 IntJumpsAreExchanged =
-    (class : Class) (m : Mutant) (x : IsMutant class m) → is_int_jump x.insn.op ≡ true →
+    (class : Class) (m : Mutant) (x : IsMutant mutators class m) → is_int_jump x.insn.op ≡ true →
     puts_int_jump m.edit.with ≡ true

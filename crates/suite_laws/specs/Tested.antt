@@ -13,7 +13,7 @@ use Rattle.jvm_world.specs.View.{named}
 use Rattle.line_coverage.specs.Coverage.{Covered, Covers}
 use Rattle.test_select.specs.Cells.{cells}
 use Rattle.test_select.specs.declared.mutant.MutantPlace.{MutantPlace}
-use Rattle.mutator_ops.specs.Mutants.{class_mutants}
+use Rattle.mutant_apply.specs.Fitting.{IsFittingMutant}
 use Rattle.mutator_ops.specs.declared.mutant.Mutant.{Mutant}
 use Rattle.mutator_ops.specs.declared.mutant.Verdict.{Verdict}
 use Rattle.suite_program.specs.Below.{needed_of_all}
@@ -34,11 +34,11 @@ pub record IsMeasured (p : List Info) (q : Limits) (limit : ℕ) (ts : List Test
       AllZip
       (λ t run. map (λ x. named p (x.0.0, x.1)) run ≡ (original_run p t q limit).reached) ts runs
 
--- The mutant is one of a class file of the program.
+-- The mutant is one of a class file of the program, whatever made it.
 pub record IsListed (p : List Info) (m : Mutant) : Type 0 where
   pub file : Class
   pub found : files_of p m.class ≡ Some file
-  pub listed : Contains (class_mutants file) m
+  pub fitting : IsFittingMutant file m
   pub fit : IsMutantOf (files_of p) m
 
 -- Such a program, that is built and accepted, with tests that pass, their coverage, and mutants.

@@ -47,7 +47,8 @@ use Rattle.class_table.specs.declared.scripted.Test.{Test}
 use Rattle.class_table.specs.Table.{IsProgram, look}
 use Rattle.jvm_world.specs.Classes.{machine_names}
 use Rattle.mutator_ops.specs.Laws.{IsMutant}
-use Rattle.mutator_ops.specs.Mutants.{class_mutants}
+use Rattle.mutator_ops.specs.Table.{mutators}
+use Rattle.mutant_apply.specs.Fitting.{IsFittingMutant}
 use Rattle.mutator_ops.specs.declared.mutant.Mutant.{Mutant}
 use Rattle.mutant_apply.specs.Witness.{sample_file}
 use Rattle.suite_program.specs.Below.{files_of, with_class, edited, viable, IsMutantOf}
@@ -349,13 +350,13 @@ pub record ArePremises (p : List Info) (file : Class) (m : Mutant) (p' : Look) (
   pub spelled : All (λ i. IsSpelled i.body) p
   pub of : IsMutantOf (files_of p) m
   pub found : files_of p m.class ≡ Some file
-  pub listed : Contains (class_mutants file) m
+  pub fitting : IsFittingMutant file m
   pub made : edited (files_of p) (look p) m ≡ Some p'
   pub accepted : viable (files_of p) (look p) m ≡ Some p'
   pub safe : IsSafeMutant p m p'
   pub fit : All (FitsProgram p) (reaching ∷ missing ∷ [])
   pub mutated : IsMutated p m p'
-  pub mutant : IsMutant file m
+  pub mutant : IsMutant mutators file m
   pub jumps : is_int_jump mutant.insn.op ≡ true
   pub puts : puts_int_jump m.edit.with ≡ true
   pub passed : AllPass p q limit (reaching ∷ missing ∷ [])

@@ -14,13 +14,12 @@ use machine_laws::{
     runs_reach_the_line_alike, runs_reach_the_line_the_same, unreached_runs_are_alike,
 };
 use mutant_apply::{applied_is_made, mutants_fit, what_is_spelled_is_named};
-use mutator_ops::listed_exactly;
 use program_laws::ordered_is_built;
 use type_laws::{
     accepted_code_is_never_stuck, an_edit_is_judged_by_its_class, first_faults_are_found,
 };
 
-/// Each mutant that is listed of a class file of a program meets what the laws below ask of it: by
+/// Each mutant of a class file of a program, whatever made it, meets what the laws below ask of it: by
 /// what every program keeps, and by what is asked where the tests of a suite are run on a mutant.
 pub fn listed_are_mutated()
     ensures { ListedAreMutated }
@@ -31,14 +30,13 @@ pub fn listed_are_mutated()
 pub fn mutants_are_edits()
     ensures { MutantsAreEdits }
 {
-    listed_exactly();
     applied_is_made();
     what_is_spelled_is_named();
     what_is_spelled_is_written();
-    mutants_fit();
 }
 
-/// Each mutant of a conditional jump on ints puts such a jump there.
+/// Each mutant of a conditional jump on ints, by a mutator that no option asks for, puts such a jump
+/// there.
 pub fn int_jumps_are_exchanged()
     ensures { IntJumpsAreExchanged }
 {}
@@ -48,7 +46,6 @@ pub fn int_jumps_are_exchanged()
 pub fn int_jumps_go_on()
     ensures { IntJumpsGoOn }
 {
-    listed_exactly();
     applied_is_made();
 }
 

@@ -12,7 +12,6 @@ use library_laws::{
     keepers_have_hosts, library_is_closed, library_is_there, natives_fit, natives_have_hosts,
     natives_that_keep_items_fit, object_is_bare,
 };
-use mutator_ops::listed_exactly;
 use program_laws::{ordered_has_layout, ordered_is_built, tops_are_object};
 
 /// The verdicts by the tests that cover each mutant are those by all tests, the steps of their runs
@@ -25,7 +24,6 @@ pub fn covering_tests_are_needed()
     mutants_are_reached_alike();
     viable_mutants_are_never_stuck();
     selected_tests_always_suffice();
-    listed_exactly();
 }
 
 /// The program of a suite is built and accepted as the laws of mutants ask, and its library is

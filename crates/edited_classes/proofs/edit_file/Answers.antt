@@ -11,4 +11,4 @@ pub edit_each-requires-clause-fit : goal.edit_each-requires-clause-fit
 edit_each-requires-clause-fit c =
     let class = c.in_ok-class.class in
     let form = (c.what_is_spelled_is_written.ensures _ class c.in_ok-class.ensures.found).0 in
-    subst (All (λ (m : Mutant). Fits class m.edit)) (sym (c.as_slice.ensures ∙ c.in_ok-mutants.ensures)) (c.mutants_fit.ensures class form)
+    subst (All (λ (m : Mutant). Fits class m.edit)) (sym (c.as_slice.ensures ∙ c.in_ok-mutants.ensures)) (λ k d lt. (c.with_fit.ensures _ class form k d lt).fits)
