@@ -3,7 +3,7 @@ use Rattle.std.specs.Prelude.{Bool, false, List, [], ◌∷◌, ◌++◌, if◌t
 use Rattle.class_model.specs.declared.class.Class.{Class}
 use Rattle.class_model.specs.declared.class.ClassId.{ClassId}
 use Rattle.class_model.specs.declared.mutator.Mutator.{Mutator}
-use Rattle.class_model.specs.declared.mutator.Mutator.TheVariants as mutator
+use Rattle.class_model.specs.declared.mutator.Mutator.TheVariants.{NonVoidMethodCalls, ConstructorCalls, RemoveConditionals}
 use Rattle.class_link.specs.Info.{Info}
 use Rattle.mutator_ops.specs.Mutants.{class_mutants_by}
 use Rattle.mutator_ops.specs.Programs.{mutants_by}
@@ -21,9 +21,9 @@ alone_if asked mutator = if asked then mutator ∷ [] else []
 -- Those that are asked for, in the order in which those of one instruction are listed.
 abbrev pub further : Extra → List Mutator
 further on =
-    alone_if on.calls mutator.NonVoidMethodCalls
-    ++ alone_if on.makers mutator.ConstructorCalls
-    ++ alone_if on.conditions mutator.RemoveConditionals
+    alone_if on.calls NonVoidMethodCalls
+    ++ alone_if on.makers ConstructorCalls
+    ++ alone_if on.conditions RemoveConditionals
 
 -- They stand behind the others.
 abbrev pub table_with : Extra → List Mutator

@@ -17,6 +17,10 @@ opened_more pool unclosed index =
     ap reverse (map-append (class_name_of pool) unclosed (index ∷ []))
     ∙ reverse-append (map (class_name_of pool) unclosed) (class_name_of pool index ∷ [])
 
+pub none_same : (a : Option Name) → are_same a None ≡ false
+none_same None = refl
+none_same (Some n) = refl
+
 -- ---- the last one
 
 last_is : (xs : List ℕ) (o : Option ℕ) → o ≡ slice_get xs (length xs - 1) → (front : List ℕ) × (xs ≡ front ++ option_to_list o)
@@ -44,8 +48,7 @@ closes_none pool (x ∷ xs) insn e = absurd (some_last x xs e)
 
 none_latest : (unclosed : List (Option Name)) → is_latest unclosed None ≡ false
 none_latest [] = refl
-none_latest (None ∷ unclosed) = refl
-none_latest (Some n ∷ unclosed) = refl
+none_latest (latest ∷ unclosed) = none_same latest
 
 new_calls_none : (pool : List Const) (insn : Insn) → (insn.op == 0xbb) ≡ true → initialized pool insn ≡ None
 new_calls_none pool insn is =

@@ -15,7 +15,7 @@ use Rattle.class_model.specs.declared.constant.Const.{Const}
 use Rattle.class_model.specs.declared.edit.Edit.{Edit}
 use Rattle.class_model.specs.declared.instruction.Insn.{Insn}
 use Rattle.class_model.specs.declared.mutator.Mutator.{Mutator}
-use Rattle.class_model.specs.declared.mutator.Mutator.TheVariants as mutator
+use Rattle.class_model.specs.declared.mutator.Mutator.TheVariants.{ConstructorCalls}
 use Rattle.program_rules.specs.Linked.{LinkedLine, line_at}
 use Rattle.program_rules.specs.Names.{same}
 use Rattle.class_link.specs.Info.{own_name}
@@ -86,7 +86,7 @@ pub record Place : Type 0 where
 
 -- whether the mutators of a table ask which instructions close a `new`
 abbrev pub is_of_constructors : Mutator → Bool
-is_of_constructors mutator.ConstructorCalls = true
+is_of_constructors ConstructorCalls = true
 is_of_constructors other = false
 
 abbrev pub asks_closings : List Mutator → Bool

@@ -12,6 +12,7 @@ use std::alloc::Global;
 const NEW: u8 = 0xbb;
 
 // The instruction closes the latest `new` that is open: the last one here.
+#[tactic(auto, using(crate::proofs::OpeningLaws::closes_last, crate::proofs::OpeningLaws::closes_none))]
 fn closes(pool: &Pool, unclosed: &[u16], insn: &Insn) -> bool
     ensures { result ≡ closes pool.now (opened pool.now unclosed.now) insn.now }
 {

@@ -1,8 +1,8 @@
 //! The constant pool of a class, with what its descriptors mean, and the methods that instructions
 //! call.
 
-ghost use Rattle.std.specs.Prelude.{◌≡◌, ◌==◌, ◌<◌, ◌≤◌, ◌-◌, IfOk, length, map, get_or, option_copied};
-ghost use Rattle.class_model.specs.Pool.{text_of, class_name_of};
+ghost use Rattle.std.specs.Prelude.{◌≡◌, ◌==◌, ◌<◌, ◌≤◌, ◌-◌, IfOk, length, map, get_or, option_and_then, option_copied};
+ghost use Rattle.class_model.specs.Pool.{entry_of, text_of, class_name_of, class_in};
 ghost use Rattle.mutator_ops.specs.Calls.{type_in, type_of, is_call, pool_index, class_named, called_entry, called_class, called_pair, called_type, called_args, is_initializer, calls_initializer, is_void_call};
 ghost use Rattle.mutator_ops.specs.Openings.{initialized, are_same};
 
@@ -247,17 +247,32 @@ impl<'a> Pool<'a> {
         }
     }
 
-    // Two indices name classes, and the same one.
-    fn is_one_class(&self, a: u16, b: u16) -> bool
-        ensures { result ≡ are_same (class_name_of self.now a) (class_name_of self.now b) }
+    // The index of the text of a class.
+    fn class_text(&self, index: u16) -> Option<u16>
+        ensures { result ≡ option_and_then class_in (entry_of self.now index) }
     {
-        match (entry_of(self.entries, a), entry_of(self.entries, b)) {
-            (Some(Const::Class(a)), Some(Const::Class(b))) => self.is_one_text(*a, *b),
-            _ => false,
+        match entry_of(self.entries, index) {
+            Some(Const::Class(text)) => Some(*text),
+            _ => None,
         }
     }
 
+    // Two indices name classes, and the same one.
+    #[tactic(auto, using(crate::proofs::OpeningLaws::none_same))]
+    fn is_one_class(&self, a: u16, b: u16) -> bool
+        ensures { result ≡ are_same (class_name_of self.now a) (class_name_of self.now b) }
+    {
+        let Some(one) = self.class_text(a) else {
+            return false;
+        };
+        let Some(other) = self.class_text(b) else {
+            return false;
+        };
+        self.is_one_text(one, other)
+    }
+
     /// The instruction is an `invokespecial` of `<init>` of this class.
+    #[tactic(auto, using(crate::proofs::OpeningLaws::none_same))]
     pub fn initializes(&self, class: u16, insn: &Insn) -> bool
         ensures { result ≡ are_same (class_name_of self.now class) (initialized self.now insn.now) }
     {
