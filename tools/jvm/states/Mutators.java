@@ -1,7 +1,9 @@
 package states;
 
+import java.util.ArrayDeque;
 import java.util.ArrayList;
 import java.util.Arrays;
+import java.util.Deque;
 import java.util.HashMap;
 import java.util.LinkedHashMap;
 import java.util.List;
@@ -23,9 +25,15 @@ import org.objectweb.asm.tree.LdcInsnNode;
 import org.objectweb.asm.tree.LineNumberNode;
 import org.objectweb.asm.tree.MethodInsnNode;
 import org.objectweb.asm.tree.MethodNode;
+import org.objectweb.asm.tree.TypeInsnNode;
 
 /** The table of mutators, and the mutants of a class file by it, made by ASM. */
 final class Mutators implements Opcodes {
+    /** The further mutators that are asked for: `-Dmutators=`, with names parted by commas. */
+    private static final List<String> FURTHER = Arrays.asList(System.getProperty("mutators", "").split(","));
+    /** The jumps that take two values. */
+    private static final List<Integer> TWO =
+        Arrays.asList(IF_ICMPEQ, IF_ICMPNE, IF_ICMPLT, IF_ICMPGE, IF_ICMPGT, IF_ICMPLE, IF_ACMPEQ, IF_ACMPNE);
     private static final Map<Integer, Integer> MOVED = new HashMap<>();
     private static final Map<Integer, Integer> NEGATED = new HashMap<>();
     private static final Map<Integer, Integer> EXCHANGED = new HashMap<>();
@@ -144,10 +152,58 @@ final class Mutators implements Opcodes {
             }
         }
         results(method, op, found);
+        further(method, node, found);
         return found;
     }
 
+    /** What the mutators that are asked for put there, behind those of the table. */
+    private static void further(MethodNode method, AbstractInsnNode node, Map<String, InsnList> found) {
+        MethodInsnNode call = node instanceof MethodInsnNode ? (MethodInsnNode) node : null;
+        if (FURTHER.contains("NON_VOID_METHOD_CALLS") && call != null && !call.desc.endsWith(")V")) {
+            InsnList given = taken(call);
+            int sort = Type.getReturnType(call.desc).getSort();
+            boolean isReference = sort == Type.OBJECT || sort == Type.ARRAY;
+            given.add(new InsnNode(isReference ? ACONST_NULL : sort == Type.LONG ? LCONST_0 : ICONST_0));
+            found.put("NON_VOID_METHOD_CALLS", given);
+        }
+        if (FURTHER.contains("CONSTRUCTOR_CALLS") && call != null && closes(method, call)) {
+            InsnList none = taken(call);
+            none.add(new InsnNode(POP));
+            none.add(new InsnNode(ACONST_NULL));
+            found.put("CONSTRUCTOR_CALLS", none);
+        }
+        if (FURTHER.contains("REMOVE_CONDITIONALS") && NEGATED.containsKey(node.getOpcode())) {
+            found.put("REMOVE_CONDITIONALS", plain(TWO.contains(node.getOpcode()) ? POP2 : POP));
+        }
+    }
+
+    private static boolean isMaker(AbstractInsnNode node) {
+        return node.getOpcode() == INVOKESPECIAL && ((MethodInsnNode) node).name.equals("<init>");
+    }
+
+    /** The call is one of `<init>` that closes the latest `new` in front of it, as it names the same class. */
+    private static boolean closes(MethodNode method, MethodInsnNode call) {
+        Deque<String> open = new ArrayDeque<>();
+        for (AbstractInsnNode node : method.instructions) {
+            boolean closes = isMaker(node) && !open.isEmpty() && open.peek().equals(((MethodInsnNode) node).owner);
+            if (node == call) {
+                return closes;
+            }
+            if (closes) {
+                open.pop();
+            } else if (node.getOpcode() == NEW) {
+                open.push(((TypeInsnNode) node).desc);
+            }
+        }
+        return false;
+    }
+
     private static InsnList pops(MethodInsnNode call) {
+        InsnList pops = taken(call);
+        return pops.size() == 0 ? plain(NOP) : pops;
+    }
+
+    private static InsnList taken(MethodInsnNode call) {
         InsnList pops = new InsnList();
         Type[] arguments = Type.getArgumentTypes(call.desc);
         for (int at = arguments.length - 1; at >= 0; at--) {
@@ -156,7 +212,7 @@ final class Mutators implements Opcodes {
         if (call.getOpcode() != INVOKESTATIC) {
             pops.add(new InsnNode(POP));
         }
-        return pops.size() == 0 ? plain(NOP) : pops;
+        return pops;
     }
 
     private static void results(MethodNode method, int op, Map<String, InsnList> found) {
