@@ -42,7 +42,7 @@ pub use instruction::{Arg, Insn};
 pub use kind::{Kind, MethodType};
 pub use list::{Bytes, Name, Seq};
 pub use memory::Memory;
-pub use mutator::Mutator;
+pub use mutator::{Extra, Mutator};
 pub use outcome::{Cause, Outcome};
 pub use shared::SharedBytes;
 pub use text::{read_text, write_text};

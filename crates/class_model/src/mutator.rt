@@ -1,4 +1,5 @@
 ghost use Rattle.std.specs.Prelude.{◌≡◌};
+ghost use Rattle.class_model.specs.Extra.{no_extra};
 
 /// The kinds of mutants, in the order in which the mutants of one instruction are listed.
 #[derive(Clone, Copy, Debug, PartialEq, Eq, PartialOrd, Ord)]
@@ -41,6 +42,30 @@ impl Mutator {
             Mutator::NonVoidMethodCalls => "NON_VOID_METHOD_CALLS",
             Mutator::ConstructorCalls => "CONSTRUCTOR_CALLS",
             Mutator::RemoveConditionals => "REMOVE_CONDITIONALS",
+        }
+    }
+}
+
+/// The further mutators that an option asks for.
+#[derive(Clone, Copy)]
+pub struct Extra {
+    /// NON_VOID_METHOD_CALLS
+    pub calls: bool,
+    /// CONSTRUCTOR_CALLS
+    pub makers: bool,
+    /// REMOVE_CONDITIONALS
+    pub conditions: bool,
+}
+
+impl Extra {
+    /// None is asked for.
+    pub fn none() -> Extra
+        ensures { result ≡ no_extra }
+    {
+        Extra {
+            calls: false,
+            makers: false,
+            conditions: false,
         }
     }
 }

@@ -10,10 +10,10 @@ ghost use Rattle.std.specs.Prelude.{All};
 ghost use Rattle.class_writer.specs.Writing.{HasClassForm};
 ghost use Rattle.mutant_apply.specs.Fitting.{Fits};
 
-use class_model::{Bytes, Class, ClassFault, LayoutFault, Memory};
+use class_model::{Bytes, Class, ClassFault, Extra, LayoutFault, Memory};
 use class_reader::read_class;
 use class_writer::{what_is_spelled_is_written, write_class};
-use extra_mutators::{Extra, class_mutants_with, with_fit};
+use extra_mutators::{class_mutants_with, with_fit};
 use mt_edge::{EdgeFault, HostTree, Tree};
 use mutant_apply::apply;
 use mutator_ops::Mutant;

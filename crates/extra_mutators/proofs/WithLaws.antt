@@ -6,9 +6,9 @@ use Rattle.mutator_ops.proofs.Lists.{ascend, ascending, all_pairs}
 use Rattle.class_model.specs.declared.mutator.Mutator.{Mutator}
 use Rattle.std.specs.Prelude.{map}
 use Rattle.mutant_apply.specs.Laws.{MutantsFit}
-use Rattle.extra_mutators.specs.Extra.{table_with}
+use Rattle.extra_mutators.specs.Lists.{table_with}
 use Rattle.extra_mutators.specs.Laws.{NoneIsAdded, WithExactly, WithInOrder, WithOnce, WithFit}
-use Rattle.extra_mutators.specs.declared.extra.Extra.{Extra}
+use Rattle.class_model.specs.declared.mutator.Extra.{Extra}
 
 pub none_is_added : NoneIsAdded
 none_is_added = record { of_class = λ class. refl; of_program = λ p ids. refl }

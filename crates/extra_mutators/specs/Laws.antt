@@ -1,5 +1,6 @@
 -- What the lists with further mutators are.
 use Rattle.std.specs.Prelude.{◌≡◌, ◌<◌, ◌×◌, ◌↔◌, ℕ, Bool, true, List, [], All, AllPairs, Contains, Some, slice_get}
+use Rattle.class_model.specs.Extra.{no_extra}
 use Rattle.class_model.specs.Pool.{class_name_of}
 use Rattle.class_model.specs.declared.class.Class.{Class}
 use Rattle.class_model.specs.declared.class.ClassId.{ClassId}
@@ -15,8 +16,8 @@ use Rattle.mutator_ops.specs.Openings.{closings, closes_at, initialized}
 use Rattle.mutator_ops.specs.Programs.{files_among, mutants}
 use Rattle.mutator_ops.specs.declared.mutant.Mutant.{Mutant}
 use Rattle.mutant_apply.specs.Fitting.{IsFittingMutant}
-use Rattle.extra_mutators.specs.Extra.{no_extra, table_with, class_mutants_with, mutants_with}
-use Rattle.extra_mutators.specs.declared.extra.Extra.{Extra}
+use Rattle.extra_mutators.specs.Lists.{table_with, class_mutants_with, mutants_with}
+use Rattle.class_model.specs.declared.mutator.Extra.{Extra}
 
 -- Where no option asks for one, the mutants are those of the table alone.
 pub record NoneIsAdded : Type 0 where

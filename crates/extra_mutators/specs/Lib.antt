@@ -1,2 +1,2 @@
-pub mod Extra
+pub mod Lists
 pub mod Laws

@@ -2,10 +2,10 @@
 
 ghost use Rattle.std.specs.Prelude.{◌≡◌, length, IfOk};
 ghost use Rattle.std.specs.Io.Iter.{u64_saturate};
-ghost use Rattle.extra_mutators.specs.Extra.{class_mutants_with, mutants_with};
+ghost use Rattle.extra_mutators.specs.Lists.{class_mutants_with, mutants_with};
 
-use crate::extra::{Extra, table_with};
-use class_model::{Class, ClassId, Memory, Seq};
+use crate::table::table_with;
+use class_model::{Class, ClassId, Extra, Memory, Seq};
 use class_table::Program;
 use mutator_ops::{Mutant, class_mutants_by, count_all_by, mutants_by};
 use std::alloc::Global;

@@ -1,9 +1,9 @@
 //! The mutants of an option: which calls of `<init>` close which `new`, and what each mutator makes.
 
 use crate::small_methods::{Case, PLAIN, agrees_by, class_with, only, push_texts};
-use class_model::{Arg, Const, Insn, Mutator, Seq};
+use class_model::{Arg, Const, Extra, Insn, Mutator, Seq};
 use class_reader::read_class;
-use extra_mutators::{Extra, class_mutants_with};
+use extra_mutators::class_mutants_with;
 use mutator_ops::{Pool, closings, id_lines};
 use sample_classes::A;
 use std::alloc::Global;

@@ -1,5 +1,6 @@
 -- What is said of the options of a command.
 use Rattle.std.specs.Prelude.{◌≡◌, ◌≤◌, ℕ, false, List, [], ◌∷◌, codes, Some, None}
+use Rattle.class_model.specs.Extra.{no_extra}
 use Rattle.clap.specs.Words.{Text}
 use Rattle.mutest_words.specs.Words.{GenerateOptions, RunOptions, generate_suite, run_suite, command_of}
 
@@ -49,13 +50,14 @@ run_read = record {
   heap = 4_194_304;
   depth = 1_024;
   matrix = false;
+  mutators = no_extra;
 }
 
 abbrev pub generate_words : List Text
 generate_words = codes "generate" ∷ codes "50" ∷ []
 
 abbrev pub generate_read : GenerateOptions
-generate_read = record { classes = 50; workers = 1; matrix = false }
+generate_read = record { classes = 50; workers = 1; matrix = false; mutators = no_extra }
 
 -- There are words of both commands.
 pub record AreRead : Type 0 where

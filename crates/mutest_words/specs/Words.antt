@@ -5,17 +5,20 @@ use Rattle.std.specs.Borrow.{Bor}
 use Rattle.std.specs.List.{ends_with, list_any}
 use Rattle.std.specs.Io.BufRead.{strip_last}
 use Rattle.clap.specs.Words.{App, Row, Text, first_of}
+use Rattle.class_model.specs.declared.mutator.Extra.{Extra}
+use Rattle.mutest_words.specs.Further.{extra_or}
 use Rattle.mutest_words.specs.Given.{app_with, given, is_set, is_word, lacks}
 use Rattle.mutest_words.specs.Numbers.{number_between}
 use Rattle.mutest_words.specs.declared.command.AsmOptions.{AsmOptions as FoundAsm}
+use Rattle.mutest_words.specs.declared.command.ListOptions.{ListOptions as FoundList}
 use Rattle.mutest_words.specs.declared.command.GenerateOptions.{GenerateOptions as FoundGenerate}
 use Rattle.mutest_words.specs.declared.command.RunOptions.{RunOptions as FoundRun}
 use Rattle.mutest_words.specs.declared.command.Command.{Command as Found}
 use Rattle.mutest_words.specs.declared.command.Command.TheVariants as found
 
 -- the folders of classes, of tests and of sources, the paths of what is written and of what earlier
--- runs left, how many workers, steps of a run, words of a heap and frames there may be, and whether
--- all tests that detect a mutant are asked for
+-- runs left, how many workers, steps of a run, words of a heap and frames there may be, whether all
+-- tests that detect a mutant are asked for, and which further mutators
 pub record RunOptions : Type 0 where
   pub classes : Text
   pub tests : Text
@@ -29,21 +32,28 @@ pub record RunOptions : Type 0 where
   pub heap : ℕ
   pub depth : ℕ
   pub matrix : Bool
+  pub mutators : Extra
+
+-- the path of a class file, and which further mutators are asked for
+pub record ListOptions : Type 0 where
+  pub file : Text
+  pub mutators : Extra
 
 -- the path of a text of the assembler's language, and that of the class file that it states
 pub record AsmOptions : Type 0 where
   pub text : Text
   pub out : Text
 
--- how many classes are made, each with its test, how many workers run them, and whether all tests
--- that detect a mutant are asked for
+-- how many classes are made, each with its test, how many workers run them, whether all tests that
+-- detect a mutant are asked for, and which further mutators
 pub record GenerateOptions : Type 0 where
   pub classes : ℕ
   pub workers : ℕ
   pub matrix : Bool
+  pub mutators : Extra
 
 pub data Command : Type 0 where
-  list_class : Text → Command
+  list_class : ListOptions → Command
   run_suite : RunOptions → Command
   assemble_class : AsmOptions → Command
   generate_suite : GenerateOptions → Command
@@ -68,12 +78,22 @@ count_of name least most usual rows = number_or least most usual (first_of name 
 
 -- ---- commands, by what the words behind their names give
 
--- `list`: FILE
+-- the further mutators that an option asks for
+abbrev pub mutators_in : List Row → Option Extra
+mutators_in rows = extra_or (first_of (codes "mutators") rows)
+
+-- `list`: FILE [--mutators LIST]
 unfoldable pub list_app : App
-list_app = app_with (codes "file" ∷ []) [] []
+list_app = app_with (codes "file" ∷ []) (codes "mutators" ∷ []) []
+
+abbrev pub list_options : List Row → Option ListOptions
+list_options rows =
+    option_and_then (λ file.
+    option_map (λ mutators. record { file = file; mutators = mutators })
+    (mutators_in rows)) (first_of (codes "file") rows)
 
 abbrev pub list_of : List Row → Option Command
-list_of rows = option_map list_class (first_of (codes "file") rows)
+list_of rows = option_map list_class (list_options rows)
 
 -- `asm`: FILE --out FILE
 unfoldable pub asm_app : App
@@ -88,19 +108,23 @@ asm_options rows =
 abbrev pub asm_of : List Row → Option Command
 asm_of rows = option_map assemble_class (asm_options rows)
 
--- `generate`: N [--workers N] [--matrix]
+-- `generate`: N [--workers N] [--matrix] [--mutators LIST]
 unfoldable pub generate_app : App
-generate_app = app_with (codes "number" ∷ []) (codes "workers" ∷ []) (codes "matrix" ∷ [])
+generate_app = app_with (codes "number" ∷ []) (codes "workers" ∷ codes "mutators" ∷ [])
+    (codes "matrix" ∷ [])
 
 abbrev pub generate_options : List Row → Option GenerateOptions
 generate_options rows =
     option_and_then (λ word.
     option_and_then (λ classes.
-    option_map (λ workers. record {
+    option_and_then (λ workers.
+    option_map (λ mutators. record {
       classes = classes;
       workers = workers;
       matrix = is_set (codes "matrix") rows;
-    }) (count_of (codes "workers") 1 64 1 rows))
+      mutators = mutators;
+    }) (mutators_in rows))
+    (count_of (codes "workers") 1 64 1 rows))
     (number_between 1 200 word)) (first_of (codes "number") rows)
 
 abbrev pub generate_of : List Row → Option Command
@@ -108,11 +132,12 @@ generate_of rows = option_map generate_suite (generate_options rows)
 
 -- `run`: --classes DIR --tests DIR --report FILE --new-history FILE [--sources DIR]
 -- [--history FILE] [--journal FILE] [--workers N] [--steps N] [--heap N] [--depth N] [--matrix]
+-- [--mutators LIST]
 unfoldable pub run_app : App
 run_app = app_with []
     (codes "classes" ∷ codes "tests" ∷ codes "report" ∷ codes "new-history" ∷ codes "sources"
     ∷ codes "history" ∷ codes "journal" ∷ codes "workers" ∷ codes "steps" ∷ codes "heap"
-    ∷ codes "depth" ∷ [])
+    ∷ codes "depth" ∷ codes "mutators" ∷ [])
     (codes "matrix" ∷ [])
 
 abbrev pub run_options : List Row → Option RunOptions
@@ -123,7 +148,8 @@ run_options rows =
     option_and_then (λ workers.
     option_and_then (λ steps.
     option_and_then (λ heap.
-    option_map (λ depth. record {
+    option_and_then (λ depth.
+    option_map (λ mutators. record {
       classes = folder_of classes;
       tests = folder_of tests;
       report = report;
@@ -136,7 +162,9 @@ run_options rows =
       heap = heap;
       depth = depth;
       matrix = is_set (codes "matrix") rows;
-    }) (count_of (codes "depth") 16 65_536 1_024 rows))
+      mutators = mutators;
+    }) (mutators_in rows))
+    (count_of (codes "depth") 16 65_536 1_024 rows))
     (count_of (codes "heap") 1_024 4_194_304 4_194_304 rows))
     (count_of (codes "steps") 1 1_000_000_000 10_000_000 rows))
     (count_of (codes "workers") 1 64 1 rows))
@@ -217,13 +245,25 @@ as_run_options o = record {
   heap = o.heap;
   depth = o.depth;
   matrix = o.matrix;
+  mutators = o.mutators;
 }
+
+abbrev pub as_list_options : FoundList → ListOptions
+as_list_options o = record { file = o.file.now; mutators = o.mutators }
+
+abbrev pub as_list_command : FoundList → Command
+as_list_command o = list_class (as_list_options o)
 
 abbrev pub as_asm_options : FoundAsm → AsmOptions
 as_asm_options o = record { text = o.text.now; out = o.out.now }
 
 abbrev pub as_generate_options : FoundGenerate → GenerateOptions
-as_generate_options o = record { classes = o.classes; workers = o.workers; matrix = o.matrix }
+as_generate_options o = record {
+  classes = o.classes;
+  workers = o.workers;
+  matrix = o.matrix;
+  mutators = o.mutators;
+}
 
 abbrev pub as_run_command : FoundRun → Command
 as_run_command o = run_suite (as_run_options o)
@@ -235,7 +275,7 @@ abbrev pub as_generate_command : FoundGenerate → Command
 as_generate_command o = generate_suite (as_generate_options o)
 
 abbrev pub as_command : Found → Command
-as_command (found.List file) = list_class file.now
+as_command (found.List options) = as_list_command options
 as_command (found.Run options) = as_run_command options
 as_command (found.Assemble options) = as_asm_command options
 as_command (found.Generate options) = as_generate_command options

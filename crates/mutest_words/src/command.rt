@@ -4,12 +4,13 @@ ghost use Rattle.std.specs.Prelude.{◌≡◌, map, option_and_then, option_map,
 ghost use Rattle.std.specs.List.{list_any};
 ghost use Rattle.clap.specs.Words.{app_of, found_of, rows_of};
 ghost use Rattle.mutest_words.specs.Given.{given, is_word, texts};
-ghost use Rattle.mutest_words.specs.Words.{folder_of, is_archive, count_of, differ, paths_differ, is_whole, list_of, list_app, asm_of, asm_app, run_app, generate_app, run_options, run_of, generate_options, generate_of, named_command, command_by, command_of, as_run_options, as_generate_options, lent_text, Finds};
+ghost use Rattle.mutest_words.specs.Words.{folder_of, is_archive, count_of, differ, paths_differ, is_whole, list_of, list_app, asm_of, asm_app, run_app, generate_app, list_options, as_list_options, mutators_in, run_options, run_of, generate_options, generate_of, named_command, command_by, command_of, as_run_options, as_generate_options, lent_text, Finds};
 
+use crate::further::extra_or;
 use crate::given::{given, is_set, lacks, value_of};
 use crate::number::number_between;
 use clap::ArgMatches;
-use class_model::Memory;
+use class_model::{Extra, Memory};
 use std::alloc::Global;
 
 /// The options of `run`. A folder has no `/` at its end that the word had.
@@ -33,6 +34,15 @@ pub struct RunOptions<'a> {
     pub depth: u32,
     /// All tests that detect a mutant are asked for, and not the first alone.
     pub matrix: bool,
+    /// Which further mutators are asked for.
+    pub mutators: Extra,
+}
+
+/// What `list` is given: the path of a class file, and which further mutators are asked for.
+#[derive(Clone, Copy)]
+pub struct ListOptions<'a> {
+    pub file: &'a str,
+    pub mutators: Extra,
 }
 
 /// What `asm` is given: the path of a text of the assembler's language, and that of the class file
@@ -44,19 +54,20 @@ pub struct AsmOptions<'a> {
 }
 
 /// What `generate` is given: how many classes are made, each with its test, how many workers run
-/// them, and whether all tests that detect a mutant are asked for.
+/// them, whether all tests that detect a mutant are asked for, and which further mutators.
 #[derive(Clone, Copy)]
 pub struct GenerateOptions {
     pub classes: u32,
     pub workers: u32,
     pub matrix: bool,
+    pub mutators: Extra,
 }
 
 /// What the words ask for.
 #[derive(Clone, Copy)]
 pub enum Command<'a> {
     /// The mutants of a class file.
-    List(&'a str),
+    List(ListOptions<'a>),
     /// The main job.
     Run(RunOptions<'a>),
     /// The class file of a text.
@@ -68,7 +79,7 @@ pub enum Command<'a> {
 /// The options that aren't built: they are refused, and none of them has to stand.
 const UNBUILT: [&str; 1] = ["journal"];
 
-const RUN_OPTIONS: [&str; 11] = [
+const RUN_OPTIONS: [&str; 12] = [
     "classes",
     "tests",
     "report",
@@ -80,6 +91,7 @@ const RUN_OPTIONS: [&str; 11] = [
     "steps",
     "heap",
     "depth",
+    "mutators",
 ];
 
 // ---- values
@@ -126,6 +138,22 @@ fn is_named(names: &[&str], name: &str) -> bool
 
 // ---- options
 
+// The further mutators that an option asks for.
+fn mutators_in(matches: &ArgMatches<'_>) -> Option<Extra>
+    ensures { result ≡ mutators_in (rows_of (found_of matches.now)) }
+{
+    extra_or(value_of(matches, "mutators"))
+}
+
+fn list_options<'a>(matches: &ArgMatches<'a>) -> Option<ListOptions<'a>>
+    ensures { option_map as_list_options result ≡ list_options (rows_of (found_of matches.now)) }
+{
+    Some(ListOptions {
+        file: value_of(matches, "file")?,
+        mutators: mutators_in(matches)?,
+    })
+}
+
 fn run_options<'a>(matches: &ArgMatches<'a>) -> Option<RunOptions<'a>>
     ensures { option_map as_run_options result ≡ run_options (rows_of (found_of matches.now)) }
 {
@@ -142,6 +170,7 @@ fn run_options<'a>(matches: &ArgMatches<'a>) -> Option<RunOptions<'a>>
         heap: count_of(matches, "heap", 1_024, 4_194_304, 4_194_304)?,
         depth: count_of(matches, "depth", 16, 65_536, 1_024)?,
         matrix: is_set(matches, "matrix"),
+        mutators: mutators_in(matches)?,
     })
 }
 
@@ -176,6 +205,7 @@ fn generate_options(matches: &ArgMatches<'_>) -> Option<GenerateOptions>
         classes: number_between(1, 200, value_of(matches, "number")?)?,
         workers: count_of(matches, "workers", 1, 64, 1)?,
         matrix: is_set(matches, "matrix"),
+        mutators: mutators_in(matches)?,
     })
 }
 
@@ -184,7 +214,7 @@ fn generate_options(matches: &ArgMatches<'_>) -> Option<GenerateOptions>
 fn list_given<'a>(matches: &ArgMatches<'a>) -> Option<Command<'a>>
     ensures { Finds (list_of (rows_of (found_of matches.now))) result }
 {
-    Some(Command::List(value_of(matches, "file")?))
+    Some(Command::List(list_options(matches)?))
 }
 
 fn asm_given<'a>(matches: &ArgMatches<'a>) -> Option<Command<'a>>
@@ -219,12 +249,12 @@ fn run_given<'a>(matches: &ArgMatches<'a>, unbuilt: &[&str]) -> Option<Command<'
     Some(Command::Run(options))
 }
 
-// `list`: FILE.
+// `list`: FILE, with its options.
 fn list_command<'a>(alloc: Global, words: &'a [String]) -> Result<Option<Command<'a>>, Memory>
     ensures { IfOk result (Finds (option_and_then list_of
         (given list_app (map string_bytes words.entry.now)))) }
 {
-    match given(alloc, &["file"], &[], &[], words)? {
+    match given(alloc, &["file"], &["mutators"], &[], words)? {
         Some(matches) => Ok(list_given(&matches)),
         None => Ok(None),
     }
@@ -261,7 +291,13 @@ fn generate_command<'a>(alloc: Global, words: &'a [String]) -> Result<Option<Com
     ensures { IfOk result (Finds (option_and_then generate_of
         (given generate_app (map string_bytes words.entry.now)))) }
 {
-    match given(alloc, &["number"], &["workers"], &["matrix"], words)? {
+    match given(
+        alloc,
+        &["number"],
+        &["workers", "mutators"],
+        &["matrix"],
+        words,
+    )? {
         Some(matches) => Ok(generate_given(&matches)),
         None => Ok(None),
     }

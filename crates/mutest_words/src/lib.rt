@@ -3,12 +3,13 @@
 #![tactic(auto)]
 
 mod command;
+mod further;
 mod given;
 mod laws;
 mod number;
 
 pub use command::{
-    AsmOptions, Command, GenerateOptions, RunOptions, command_by, command_of, is_archive,
-    paths_differ,
+    AsmOptions, Command, GenerateOptions, ListOptions, RunOptions, command_by, command_of,
+    is_archive, paths_differ,
 };
 pub use laws::{commands_are_read, options_are_limited};

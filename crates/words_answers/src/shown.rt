@@ -1,7 +1,7 @@
 //! Commands as the tables write them.
 
-use class_model::Memory;
-use mutest_words::{AsmOptions, Command, GenerateOptions, RunOptions};
+use class_model::{Extra, Memory};
+use mutest_words::{AsmOptions, Command, GenerateOptions, ListOptions, RunOptions};
 
 /// Adds a text.
 pub fn push(out: &mut String, text: &str) -> Result<(), Memory> {
@@ -41,6 +41,13 @@ fn push_flag(out: &mut String, name: &str, is_set: bool) -> Result<(), Memory> {
     Ok(())
 }
 
+// The further mutators that are asked for, in their order.
+fn push_mutators(out: &mut String, on: Extra) -> Result<(), Memory> {
+    push_flag(out, "calls", on.calls)?;
+    push_flag(out, "makers", on.makers)?;
+    push_flag(out, "conditions", on.conditions)
+}
+
 fn push_run(out: &mut String, options: &RunOptions<'_>) -> Result<(), Memory> {
     push(out, "run")?;
     push_word(out, options.classes)?;
@@ -54,7 +61,14 @@ fn push_run(out: &mut String, options: &RunOptions<'_>) -> Result<(), Memory> {
     push_number(out, "steps", options.steps, 10_000_000)?;
     push_number(out, "heap", options.heap, 4_194_304)?;
     push_number(out, "depth", options.depth, 1_024)?;
-    push_flag(out, "matrix", options.matrix)
+    push_flag(out, "matrix", options.matrix)?;
+    push_mutators(out, options.mutators)
+}
+
+fn push_list(out: &mut String, options: ListOptions<'_>) -> Result<(), Memory> {
+    push(out, "list")?;
+    push_word(out, options.file)?;
+    push_mutators(out, options.mutators)
 }
 
 fn push_asm(out: &mut String, options: AsmOptions<'_>) -> Result<(), Memory> {
@@ -68,16 +82,14 @@ fn push_generate(out: &mut String, options: GenerateOptions) -> Result<(), Memor
     let text = format!(in *out.allocator(); "generate {classes}")?;
     push(out, text.as_str())?;
     push_number(out, "workers", options.workers, 1)?;
-    push_flag(out, "matrix", options.matrix)
+    push_flag(out, "matrix", options.matrix)?;
+    push_mutators(out, options.mutators)
 }
 
 /// Adds a command, or that there is none.
 pub fn push_command(out: &mut String, command: &Option<Command<'_>>) -> Result<(), Memory> {
     match command {
-        Some(Command::List(file)) => {
-            push(out, "list")?;
-            push_word(out, *file)
-        }
+        Some(Command::List(options)) => push_list(out, *options),
         Some(Command::Assemble(options)) => push_asm(out, *options),
         Some(Command::Run(options)) => push_run(out, options),
         Some(Command::Generate(options)) => push_generate(out, *options),

@@ -1,35 +1,11 @@
-//! Which further mutators an option asks for.
+//! The table with the mutators that an option asks for.
 
 ghost use Rattle.std.specs.Prelude.{◌≡◌, ◌++◌, IfOk, OnOk};
-ghost use Rattle.extra_mutators.specs.Extra.{no_extra, alone_if, further, table_with};
+ghost use Rattle.extra_mutators.specs.Lists.{alone_if, further, table_with};
 
-use class_model::{Memory, Mutator, Seq};
+use class_model::{Extra, Memory, Mutator, Seq};
 use mutator_ops::mutators;
 use std::alloc::Global;
-
-/// The further mutators that are asked for.
-#[derive(Clone, Copy)]
-pub struct Extra {
-    /// NON_VOID_METHOD_CALLS
-    pub calls: bool,
-    /// CONSTRUCTOR_CALLS
-    pub makers: bool,
-    /// REMOVE_CONDITIONALS
-    pub conditions: bool,
-}
-
-impl Extra {
-    /// None is asked for.
-    pub fn none() -> Extra
-        ensures { result ≡ no_extra }
-    {
-        Extra {
-            calls: false,
-            makers: false,
-            conditions: false,
-        }
-    }
-}
 
 fn push_if(table: &mut Seq<Mutator>, asked: bool, mutator: Mutator) -> Result<(), Memory>
     ensures { OnOk result (table.new ≡ table.old ++ alone_if asked mutator) }

@@ -1,7 +1,8 @@
 -- The mutators that an option asks for, and the mutants with them (this project's own).
-use Rattle.std.specs.Prelude.{Bool, false, List, [], ◌∷◌, ◌++◌, if◌then◌else◌}
+use Rattle.std.specs.Prelude.{Bool, List, [], ◌∷◌, ◌++◌, if◌then◌else◌}
 use Rattle.class_model.specs.declared.class.Class.{Class}
 use Rattle.class_model.specs.declared.class.ClassId.{ClassId}
+use Rattle.class_model.specs.declared.mutator.Extra.{Extra}
 use Rattle.class_model.specs.declared.mutator.Mutator.{Mutator}
 use Rattle.class_model.specs.declared.mutator.Mutator.TheVariants.{NonVoidMethodCalls, ConstructorCalls, RemoveConditionals}
 use Rattle.class_link.specs.Info.{Info}
@@ -9,11 +10,6 @@ use Rattle.mutator_ops.specs.Mutants.{class_mutants_by}
 use Rattle.mutator_ops.specs.Programs.{mutants_by}
 use Rattle.mutator_ops.specs.Table.{mutators}
 use Rattle.mutator_ops.specs.declared.mutant.Mutant.{Mutant}
-use Rattle.extra_mutators.specs.declared.extra.Extra.{Extra}
-
--- No option asks for one.
-abbrev pub no_extra : Extra
-no_extra = record { calls = false; makers = false; conditions = false }
 
 abbrev pub alone_if : Bool → Mutator → List Mutator
 alone_if asked mutator = if asked then mutator ∷ [] else []
