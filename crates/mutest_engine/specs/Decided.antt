@@ -5,7 +5,8 @@ use Rattle.class_model.specs.declared.class.Class.{Class}
 use Rattle.class_reader.specs.Spells.{class_bytes, IsClass}
 use Rattle.class_asm.specs.Assembled.{AssembledClass}
 use Rattle.mt_edge.specs.Files.{Files}
-use Rattle.mutator_ops.specs.Mutants.{class_mutants}
+use Rattle.class_model.specs.declared.mutator.Extra.{Extra}
+use Rattle.extra_mutators.specs.Lists.{class_mutants_with}
 use Rattle.mutator_ops.specs.Printing.{id_lines}
 use Rattle.report_pieces.specs.Report.{ReportText}
 use Rattle.report_schema.specs.Summary.{Summary}
@@ -13,7 +14,7 @@ use Rattle.class_records.specs.Profile.{profile}
 use Rattle.record_rules.specs.declared.record.RunRecord.{RunRecord}
 use Rattle.reuse_laws.specs.Jobs.{AreTrue}
 use Rattle.suite_runs.specs.Below.{Allowed}
-use Rattle.mutest_words.specs.Words.{Command, list_class, run_suite, assemble_class, generate_suite, AsmOptions, GenerateOptions, RunOptions}
+use Rattle.mutest_words.specs.Words.{Command, list_class, run_suite, assemble_class, generate_suite, AsmOptions, GenerateOptions, ListOptions, RunOptions}
 use Rattle.mutest_engine.specs.Words.{words_of}
 use Rattle.mutest_engine.specs.Answers.{Answered, Write, file_of, spelled_class}
 use Rattle.mutest_engine.specs.Refusals.{MayRefuse}
@@ -35,13 +36,13 @@ use Rattle.mutest_engine.specs.declared.refusal.Refusal.{Refusal}
 -- ---- answers
 
 -- The identifiers of the mutants are put.
-abbrev pub listing : Class → Answered
-listing class = record { writes = []; text = id_lines (class_mutants class) }
+abbrev pub listing : Extra → Class → Answered
+listing on class = record { writes = []; text = id_lines (class_mutants_with on class) }
 
-abbrev pub list_answer : List ℕ → Files → Result Answered Refusal
-list_answer path files =
-    and_then (file_of path files) (λ bytes.
-    and_then (spelled_class path bytes) (λ class. Ok (listing class)))
+abbrev pub list_answer : ListOptions → Files → Result Answered Refusal
+list_answer o files =
+    and_then (file_of o.file files) (λ bytes.
+    and_then (spelled_class o.file bytes) (λ class. Ok (listing o.mutators class)))
 
 -- ---- runs
 
@@ -56,7 +57,7 @@ allowed_by o = record {
 abbrev pub before_runs : RunOptions → Files → Result (NamedSuite × List RunRecord) Refusal
 before_runs o files =
     and_then (suite_of o.classes o.tests files) (λ loaded.
-    and_then (made_suite loaded) (λ suite.
+    and_then (made_suite o.mutators loaded) (λ suite.
     and_then (old_records o.history files) (λ old. Ok (suite, old))))
 
 abbrev pub history_write : Option (List ℕ) → List ℕ → List Write
@@ -131,7 +132,7 @@ asm_answer options files =
     and_then (stated_class text) (λ class. Ok (assembly options.out class)))
 
 abbrev pub answer_to : Command → Files → Result Answered Refusal
-answer_to (list_class path) files = list_answer path files
+answer_to (list_class options) files = list_answer options files
 answer_to (run_suite options) files = run_answer options files
 answer_to (assemble_class options) files = asm_answer options files
 answer_to (generate_suite options) files = generate_answer options
@@ -142,7 +143,7 @@ answer_of words files = and_then (words_of words) (λ command. answer_to command
 
 -- The same from scratch.
 abbrev pub scratch_to : Command → Files → Result Answered Refusal
-scratch_to (list_class path) files = list_answer path files
+scratch_to (list_class options) files = list_answer options files
 scratch_to (run_suite options) files = run_scratch options files
 scratch_to (assemble_class options) files = asm_answer options files
 scratch_to (generate_suite options) files = generate_scratch options
@@ -179,7 +180,7 @@ pub record IsRunAnswer (o : RunOptions) (a : Answered) : Type 0 where
   pub history : Option (List ℕ)
   pub old : List RunRecord
   pub reported : Reported
-  pub made : made_suite loaded ≡ Ok suite
+  pub made : made_suite o.mutators loaded ≡ Ok suite
   pub read : records_in history ≡ Ok old
   pub known : known_reported o.matrix (allowed_by o) suite old ≡ Ok reported
   pub answer : CanReport o reported a
@@ -187,7 +188,7 @@ pub record IsRunAnswer (o : RunOptions) (a : Answered) : Type 0 where
 -- The answer is that of some class, of some suite whose tests pass, of some text that states a
 -- class, or of the suite that is made.
 abbrev pub CanAnswer : Command → Answered → Type 0
-CanAnswer (list_class path) a = (class : Class) × (a ≡ listing class)
+CanAnswer (list_class options) a = (class : Class) × (a ≡ listing options.mutators class)
 CanAnswer (run_suite options) a = IsRunAnswer options a
 CanAnswer (assemble_class options) a =
     (text : List ℕ) × (class : Class) × (AssembledClass text ≡ Ok class) × IsClass class
@@ -219,7 +220,7 @@ generate_bounds o =
 
 -- The steps of the runs that a command makes.
 abbrev pub bounds_to : Result Command Refusal → Files → Bounds
-bounds_to (Ok (list_class path)) files = no_steps
+bounds_to (Ok (list_class options)) files = no_steps
 bounds_to (Ok (run_suite options)) files = run_bounds options files
 bounds_to (Ok (assemble_class options)) files = no_steps
 bounds_to (Ok (generate_suite options)) files = generate_bounds options
@@ -241,7 +242,7 @@ generate_scratch_bounds o =
     bounds_behind (generated_suite o) (λ suite. scratch_bounds_in (usual_run o) suite [])
 
 abbrev pub scratch_bounds_to : Result Command Refusal → Files → Bounds
-scratch_bounds_to (Ok (list_class path)) files = no_steps
+scratch_bounds_to (Ok (list_class options)) files = no_steps
 scratch_bounds_to (Ok (run_suite options)) files = scratch_run_bounds options files
 scratch_bounds_to (Ok (assemble_class options)) files = no_steps
 scratch_bounds_to (Ok (generate_suite options)) files = generate_scratch_bounds options

@@ -39,7 +39,7 @@ generated count =
 -- ---- the suite
 
 abbrev pub generated_suite : GenerateOptions → Result NamedSuite Refusal
-generated_suite o = and_then (generated o.classes) made_suite
+generated_suite o = and_then (generated o.classes) (made_suite o.mutators)
 
 -- Its runs may take what is usual, and no file has to do with them.
 abbrev pub usual_run : GenerateOptions → RunOptions
@@ -56,11 +56,12 @@ usual_run o = record {
   heap = 4_194_304;
   depth = 1_024;
   matrix = o.matrix;
+  mutators = o.mutators;
 }
 
 -- The suite was made, and there is no history.
 pub record IsGenerated (o : GenerateOptions) (k : KnownJob) : Type 0 where
   pub loaded : LoadedSuite
-  pub made : IsMade loaded k.suite
+  pub made : IsMade o.mutators loaded k.suite
   pub read : generated o.classes ≡ Ok loaded
   pub none : k.history ≡ None

@@ -27,7 +27,7 @@ use Rattle.mutest_engine.specs.declared.stop.Stop.{Stop}
 pub record IsKnownOf (held : Option Files) (o : RunOptions) (k : KnownJob) : Type 0 where
   pub loaded : LoadedSuite
   pub formed : IsFormed loaded
-  pub made : IsMade loaded k.suite
+  pub made : IsMade o.mutators loaded k.suite
   pub read : IfSome held (λ files. suite_of o.classes o.tests files ≡ Ok loaded)
   pub old : IfSome held (λ files. history_bytes o.history files ≡ Ok k.history)
   pub path : IsOfPath o.history k.history
@@ -42,7 +42,7 @@ HaltsBefore held o h = HaltsHeld held (before_runs o) h
 module _ (o : RunOptions) (k : KnownJob) where
   abbrev pub ReportsKnown : Result Reported Stop → Type 0
   ReportsKnown result =
-      (s : LoadedSuite) → IsMade s k.suite →
+      (s : LoadedSuite) → IsMade o.mutators s k.suite →
       Gives
       (and_then (records_in k.history)
       (known_reported o.matrix (allowed_by o) (named (suite_in s k.suite)))) result
@@ -50,14 +50,14 @@ module _ (o : RunOptions) (k : KnownJob) where
   -- Where all of them are true, it is what every test on every mutant gives.
   abbrev pub ReportsTrueKnown : Result Reported Stop → Type 0
   ReportsTrueKnown result =
-      (s : LoadedSuite) → IsMade s k.suite → AreTrueIn (records_in k.history) →
+      (s : LoadedSuite) → IsMade o.mutators s k.suite → AreTrueIn (records_in k.history) →
       Gives
       (and_then (records_in k.history)
       (every_reported o.matrix (allowed_by o) (named (suite_in s k.suite)))) result
 
   abbrev pub MetersOfKnown : ℕ → ℕ → Result Reported Stop → Type 0
   MetersOfKnown before after result =
-      (s : LoadedSuite) → IsMade s k.suite →
+      (s : LoadedSuite) → IsMade o.mutators s k.suite →
       Meters
       (bounds_behind (records_in k.history) (known_bounds o (named (suite_in s k.suite))))
       before after result

@@ -176,7 +176,7 @@ IsUnheld path r = IsOfFile path r × IsOfText path r × IsLoading r
 
 -- A command isn't refused for its words.
 abbrev pub MayRefuse : Command → Refusal → Type 0
-MayRefuse (list_class path) r = IsOfFile path r
+MayRefuse (list_class options) r = IsOfFile options.file r
 MayRefuse (run_suite options) r = IsOfRun options r
 MayRefuse (assemble_class assembly) r = IsOfText assembly.text r
 MayRefuse (generate_suite options) r = IsOfSuite r

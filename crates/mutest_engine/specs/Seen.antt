@@ -3,7 +3,7 @@
 use Rattle.std.specs.Prelude.{◌≡◌, ℕ, List, [], Option, Result, Ok, Err, IfOk, IfErr}
 use Rattle.class_records.specs.Profile.{profile}
 use Rattle.mt_edge.specs.Files.{Files}
-use Rattle.mutest_words.specs.Words.{Command, list_class, run_suite, assemble_class, generate_suite, AsmOptions, GenerateOptions, RunOptions}
+use Rattle.mutest_words.specs.Words.{Command, list_class, run_suite, assemble_class, generate_suite, AsmOptions, GenerateOptions, ListOptions, RunOptions}
 use Rattle.record_rules.specs.declared.record.RunRecord.{RunRecord}
 use Rattle.reuse_laws.specs.Jobs.{AreTrue}
 use Rattle.report_pieces.specs.declared.input.Group.{Group}
@@ -57,15 +57,16 @@ abbrev pub records_seen : Seen → Result (List RunRecord) Refusal
 records_seen s = and_then s.history records_in
 
 -- The suite and the records of the history.
-abbrev pub known_seen : Seen → Result (NamedSuite × List RunRecord) Refusal
-known_seen s =
+abbrev pub known_seen :
+    RunOptions → Seen → Result (NamedSuite × List RunRecord) Refusal
+known_seen o s =
     and_then s.suite (λ loaded.
-    and_then (made_suite loaded) (λ suite.
+    and_then (made_suite o.mutators loaded) (λ suite.
     and_then (records_seen s) (λ old. Ok (suite, old))))
 
 -- A step before the first run halts with no other refusal than that of what is seen so.
 abbrev pub HaltsSeen : RunOptions → Halt → Type 0
-HaltsSeen o h = (s : Seen) × MaySee o s × RefusesReading (λ r. known_seen s ≡ Err r) h
+HaltsSeen o h = (s : Seen) × MaySee o s × RefusesReading (λ r. known_seen o s ≡ Err r) h
 
 module _ (o : RunOptions) (s : Seen) where
   abbrev pub report_seen : Reported → Result Answered Refusal
@@ -75,21 +76,21 @@ module _ (o : RunOptions) (s : Seen) where
   -- The answer by what is known of all runs,
   abbrev pub run_seen : Result Answered Refusal
   run_seen =
-      and_then (known_seen s) (λ known.
+      and_then (known_seen o s) (λ known.
       and_then (known_reported o.matrix (allowed_by o) known.0 known.1) report_seen)
 
   abbrev pub bounds_seen : Bounds
-  bounds_seen = bounds_behind (known_seen s) (λ known. known_bounds o known.0 known.1)
+  bounds_seen = bounds_behind (known_seen o s) (λ known. known_bounds o known.0 known.1)
 
   -- and from scratch,
   abbrev pub scratch_seen : Result Answered Refusal
   scratch_seen =
-      and_then (known_seen s) (λ known.
+      and_then (known_seen o s) (λ known.
       and_then (every_reported o.matrix (allowed_by o) known.0 known.1) report_seen)
 
   abbrev pub scratch_bounds_seen : Bounds
   scratch_bounds_seen =
-      bounds_behind (known_seen s) (λ known. scratch_bounds_in o known.0 known.1)
+      bounds_behind (known_seen o s) (λ known. scratch_bounds_in o known.0 known.1)
 
 -- where all these records of the history are true.
 abbrev pub records_or_none : Result (List RunRecord) Refusal → List RunRecord
@@ -147,10 +148,10 @@ generate_stated o = record {
 }
 
 -- By the bytes of one file, or why these are refused.
-abbrev pub list_seen : List ℕ → Result (List ℕ) Refusal → Result Answered Refusal
-list_seen path file =
+abbrev pub list_seen : ListOptions → Result (List ℕ) Refusal → Result Answered Refusal
+list_seen options file =
     and_then file (λ bytes.
-    and_then (spelled_class path bytes) (λ class. Ok (listing class)))
+    and_then (spelled_class options.file bytes) (λ class. Ok (listing options.mutators class)))
 
 abbrev pub asm_seen : AsmOptions → Result (List ℕ) Refusal → Result Answered Refusal
 asm_seen options file =
@@ -159,9 +160,9 @@ asm_seen options file =
 
 -- What a command may state, whatever the tree tells.
 abbrev pub MayState : Command → Stated → Type 0
-MayState (list_class path) stated =
-    (file : Result (List ℕ) Refusal) × IfErr file (IsUnheld path)
-    × (stated ≡ without_runs (list_seen path file))
+MayState (list_class options) stated =
+    (file : Result (List ℕ) Refusal) × IfErr file (IsUnheld options.file)
+    × (stated ≡ without_runs (list_seen options file))
 MayState (run_suite options) stated =
     (seen : Seen) × MaySee options seen × (stated ≡ stated_seen options seen)
 MayState (assemble_class options) stated =

@@ -21,7 +21,7 @@ no_archive_in (Some folder) = if is_archive folder then Err (Archive folder) els
 -- The command, where none of its folders is an archive; that of the classes is asked first, and
 -- that of the sources last.
 abbrev pub without_archive : Command → Result Command Refusal
-without_archive (list_class path) = Ok (list_class path)
+without_archive (list_class options) = Ok (list_class options)
 without_archive (assemble_class options) = Ok (assemble_class options)
 without_archive (generate_suite options) = Ok (generate_suite options)
 without_archive (run_suite options) =

@@ -85,7 +85,7 @@ fn generated_job(alloc: Global, options: GenerateOptions) -> Result<KnownJob, St
     ensures refusal { IfErr result (Refuses IsOfSuite) }
 {
     let loaded = generated(alloc, options)?;
-    let suite = made_suite(alloc, loaded)?;
+    let suite = made_suite(alloc, &options.mutators, loaded)?;
     Ok(KnownJob {
         suite,
         history: None,
@@ -109,6 +109,7 @@ fn usual_run<'a>(options: GenerateOptions) -> RunOptions<'a>
         heap: 4_194_304,
         depth: 1_024,
         matrix: options.matrix,
+        mutators: options.mutators,
     }
 }
 

@@ -9,7 +9,7 @@ use crate::discovered::tests_from;
 use crate::mutants::first_mutants;
 use crate::stop::Stop;
 use crate::suite::LoadedSuite;
-use class_model::{Memory, Seq};
+use class_model::{Extra, Memory, Seq};
 use class_table::{Loaded, Program, Test};
 use mutant_apply::mutants_fit;
 use mutator_ops::Mutant;
@@ -34,11 +34,12 @@ fn all_classes(classes: Seq<Loaded>, tests: Seq<Loaded>) -> Result<Seq<Loaded>, 
     Ok(Seq::from_vec(all))
 }
 
-/// The program of a suite's classes, its tests and its mutants, or the first refusal in this order.
-pub fn made_suite(alloc: Global, suite: LoadedSuite) -> Result<MadeSuite, Stop>
+/// The program of a suite's classes, its tests and its mutants, with those of the further mutators
+/// that are asked for, or the first refusal in this order.
+pub fn made_suite(alloc: Global, on: &Extra, suite: LoadedSuite) -> Result<MadeSuite, Stop>
     requires { IsFormed suite }
-    ensures made { IfOk result (IsMade suite) }
-    ensures refused { IfErr result (Refuses (λ r. made_suite suite ≡ Err r)) }
+    ensures made { IfOk result (IsMade on.now suite) }
+    ensures refused { IfErr result (Refuses (λ r. made_suite on.now suite ≡ Err r)) }
 {
     let own = suite.classes.len();
     let of_tests = suite.tests.len();
@@ -47,7 +48,7 @@ pub fn made_suite(alloc: Global, suite: LoadedSuite) -> Result<MadeSuite, Stop>
     // What every program is, for the prover alone.
     let _all = program.len();
     let tests = tests_from(alloc, &program, own, of_tests)?;
-    let mutants = first_mutants(alloc, &program, own)?;
+    let mutants = first_mutants(alloc, on, &program, own)?;
     mutants_fit();
     Ok(MadeSuite {
         program,

@@ -55,7 +55,7 @@ fn read_job<T: Tree>(alloc: Global, tree: &mut T, options: RunOptions<'_>) -> Re
         tree.old tree.new result }
 {
     let loaded = load_suite(alloc, tree, options.classes, options.tests)?;
-    let suite = made_suite(alloc, loaded)?;
+    let suite = made_suite(alloc, &options.mutators, loaded)?;
     let history = history_bytes(tree, options.history)?;
     Ok(KnownJob { suite, history })
 }
@@ -100,7 +100,7 @@ pub fn known_reported<W: Threads + Wait + Sync, G: Gate + Sync>(
     meter: &mut Meter,
 ) -> Result<Reported, Stop>
     requires limited { AreLimited (as_run_options options) }
-    requires made { (s : LoadedSuite) × IsMade s known.suite }
+    requires made { (s : LoadedSuite) × IsMade options.mutators s known.suite }
     requires room { meter.old < 2 ^ 62 }
     ensures value { ReportsKnown (as_run_options options.entry) known result }
     ensures scratch { ReportsTrueKnown (as_run_options options.entry) known result }

@@ -3,7 +3,7 @@
 ghost use Rattle.std.specs.Prelude.{◌≡◌, ◌⊎◌, ◌<◌, ◌≤◌, ◌^◌, IfOk, IfErr, OnOk, Ok};
 ghost use Rattle.mutest_engine.specs.declared.status.Status.TheVariants.{WantOfMemory};
 ghost use Rattle.mutest_engine.specs.Ends.{line_of, status_of, unwritten_status, CarriedOut, TextEnds, AgreesUntold, MayAnswer, AnswersUntold, AnswersHeld, MetersWords, Makes, Finished, ReadsFailed, WritesFailed, PutsFailed, MeterStays, HaltStays, Wrote, WroteAll, LeavesOne, LeavesAll, FailsWriting, FilesAfter};
-ghost use Rattle.mutest_words.specs.Words.{list_class, as_asm_options, as_asm_command};
+ghost use Rattle.mutest_words.specs.Words.{as_asm_options, as_asm_command, as_list_options, as_list_command};
 ghost use Rattle.mutest_engine.specs.Words.{words_of};
 ghost use Rattle.mutest_engine.specs.Decided.{listing, list_answer, written_class, asm_answer, answer_of};
 ghost use Rattle.mutest_engine.specs.Answers.{answered, one_write, writes_of, made, one};
@@ -20,10 +20,11 @@ use crate::running::run_answer;
 use crate::status::{Output, Status};
 use crate::stop::Halt;
 use crate::words::read_words;
-use class_model::{Bytes, Class, Memory};
+use class_model::{Bytes, Class, Extra, Memory};
+use extra_mutators::class_mutants_with;
 use mt_edge::{EdgeFault, Gate, Keeper, Meter, Sink, Tree};
-use mutator_ops::{class_mutants, id_lines};
-use mutest_words::{AsmOptions, Command};
+use mutator_ops::id_lines;
+use mutest_words::{AsmOptions, Command, ListOptions};
 use std::alloc::Global;
 use std::sync::Wait;
 use std::thread::Threads;
@@ -31,10 +32,10 @@ use std::thread::Threads;
 // ---- answers
 
 // What `list` prints for a class.
-fn listing<'a>(alloc: Global, class: &Class) -> Result<Answer<'a>, Halt>
-    ensures { Makes (listing class.now) result }
+fn listing<'a>(alloc: Global, on: &Extra, class: &Class) -> Result<Answer<'a>, Halt>
+    ensures { Makes (listing on.now class.now) result }
 {
-    let mutants = class_mutants(alloc, class)?;
+    let mutants = class_mutants_with(alloc, class, on)?;
     let text = id_lines(alloc, mutants.as_slice())?;
     Ok(Answer {
         writes: Vec::new(alloc),
@@ -43,15 +44,21 @@ fn listing<'a>(alloc: Global, class: &Class) -> Result<Answer<'a>, Halt>
 }
 
 // The text that `list` prints for a file.
-fn list_answer<'a, T: Tree>(alloc: Global, tree: &mut T, path: &'a str) -> Result<Answer<'a>, Halt>
-    ensures value { AnswersHeld (T.holds tree.old) (list_answer path.now) result }
-    ensures answer { MayAnswer (list_class path.now) result }
-    ensures seen { GoesByFile path.now (list_seen path.now) result }
+fn list_answer<'a, T: Tree>(
+    alloc: Global,
+    tree: &mut T,
+    options: ListOptions<'a>,
+) -> Result<Answer<'a>, Halt>
+    ensures value { AnswersHeld (T.holds tree.old)
+        (list_answer (as_list_options options.entry)) result }
+    ensures answer { MayAnswer (as_list_command options.entry) result }
+    ensures seen { GoesByFile options.entry.file.now (list_seen (as_list_options options.entry))
+        result }
     ensures tree { OnlyReads T.holds T.writing T.reading tree.old tree.new result }
 {
-    let bytes = read_file(alloc, tree, path)?;
-    let class = spelled_class(alloc, path.as_bytes(), bytes.as_slice())?;
-    listing(alloc, &class)
+    let bytes = read_file(alloc, tree, options.file)?;
+    let class = spelled_class(alloc, options.file.as_bytes(), bytes.as_slice())?;
+    listing(alloc, &options.mutators, &class)
 }
 
 // One file that is replaced.
@@ -124,7 +131,7 @@ fn answer_to<'a, W: Threads + Wait + Sync, T: Tree, G: Gate + Sync>(
     ensures tree { OnlyReads T.holds T.writing T.reading tree.old tree.new result }
 {
     match read_words(alloc, words)? {
-        Command::List(file) => list_answer(alloc, tree, file),
+        Command::List(options) => list_answer(alloc, tree, options),
         Command::Run(options) => run_answer(rt, alloc, tree, options, gate, meter),
         Command::Assemble(options) => asm_answer(alloc, tree, options),
         Command::Generate(options) => generate_answer(rt, alloc, options, gate, meter),

@@ -47,7 +47,7 @@ pub fn read_words<'a>(alloc: Global, words: &'a Vec<String>) -> Result<Command<'
             no_archive_in(alloc, options.sources)?;
             Ok(Command::Run(options))
         }
-        Some(Command::List(file)) => Ok(Command::List(file)),
+        Some(Command::List(options)) => Ok(Command::List(options)),
         Some(Command::Assemble(options)) => Ok(Command::Assemble(options)),
         Some(Command::Generate(options)) => Ok(Command::Generate(options)),
     }

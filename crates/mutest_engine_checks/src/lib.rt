@@ -7,6 +7,8 @@ mod assembling;
 #[cfg(test)]
 mod calls;
 #[cfg(test)]
+mod further;
+#[cfg(test)]
 mod generated;
 #[cfg(test)]
 mod history;

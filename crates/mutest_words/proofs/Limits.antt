@@ -6,7 +6,7 @@ use Rattle.clap.specs.Words.{Row, Text, first_of}
 use Rattle.mutest_words.specs.Given.{given, is_word, lacks}
 use Rattle.mutest_words.specs.Laws.{IsBetween, AreLimited, IsSmall}
 use Rattle.mutest_words.specs.Numbers.{number_between, number_in, within}
-use Rattle.mutest_words.specs.Words.{Command, RunOptions, AsmOptions, GenerateOptions, run_suite, list_class, assemble_class, generate_suite, number_or, count_of, list_of, asm_of, asm_options, generate_of, generate_options, run_options, checked, run_of, paths_differ, is_whole, command_by, unbuilt, list_app, run_app, asm_app, generate_app}
+use Rattle.mutest_words.specs.Words.{Command, ListOptions, RunOptions, AsmOptions, GenerateOptions, list_options, mutators_in, run_suite, list_class, assemble_class, generate_suite, number_or, count_of, list_of, asm_of, asm_options, generate_of, generate_options, run_options, checked, run_of, paths_differ, is_whole, command_by, unbuilt, list_app, run_app, asm_app, generate_app}
 
 -- ---- what gives something
 
@@ -55,8 +55,9 @@ limited rows o h =
     let workers = some_then _ (count_of (codes "workers") 1 64 1 rows) o report.2 in
     let steps = some_then _ (count_of (codes "steps") 1 1_000_000_000 10_000_000 rows) o workers.2 in
     let heap = some_then _ (count_of (codes "heap") 1_024 4_194_304 4_194_304 rows) o steps.2 in
-    let depth = some_mapped _ (count_of (codes "depth") 16 65_536 1_024 rows) o heap.2 in
-    subst AreLimited depth.2
+    let depth = some_then _ (count_of (codes "depth") 16 65_536 1_024 rows) o heap.2 in
+    let mutators = some_mapped _ (mutators_in rows) o depth.2 in
+    subst AreLimited mutators.2
     (record {
       workers = counted 1 64 1 workers.0 (first_of (codes "workers") rows) (record { least_is = omega arith; most_is = omega arith }) workers.1;
       steps = counted 1 1_000_000_000 10_000_000 steps.0 (first_of (codes "steps") rows) (record { least_is = omega arith; most_is = omega arith }) steps.1;
@@ -85,8 +86,9 @@ small : (rows : List Row) (o : GenerateOptions) → generate_options rows ≡ So
 small rows o h =
     let word = some_then _ (first_of (codes "number") rows) o h in
     let classes = some_then _ (number_between 1 200 word.0) o word.2 in
-    let workers = some_mapped _ (count_of (codes "workers") 1 64 1 rows) o classes.2 in
-    subst IsSmall workers.2
+    let workers = some_then _ (count_of (codes "workers") 1 64 1 rows) o classes.2 in
+    let mutators = some_mapped _ (mutators_in rows) o workers.2 in
+    subst IsSmall mutators.2
     (record {
       classes = is_between 1 200 classes.0 word.0 classes.1;
       workers = counted 1 64 1 workers.0 (first_of (codes "workers") rows) (record { least_is = omega arith; most_is = omega arith }) workers.1;
@@ -94,8 +96,8 @@ small rows o h =
 
 -- ---- which command it is
 
-made_list : (rows : List Row) (c : Command) → list_of rows ≡ Some c → (t : Text) × (list_class t ≡ c)
-made_list rows c h = let found = some_mapped list_class (first_of (codes "file") rows) c h in (found.0, found.2)
+made_list : (rows : List Row) (c : Command) → list_of rows ≡ Some c → (l : ListOptions) × (list_class l ≡ c)
+made_list rows c h = let found = some_mapped list_class (list_options rows) c h in (found.0, found.2)
 
 made_asm : (rows : List Row) (c : Command) → asm_of rows ≡ Some c → (o : AsmOptions) × (assemble_class o ≡ c)
 made_asm rows c h = let found = some_mapped assemble_class (asm_options rows) c h in (found.0, found.2)
@@ -117,8 +119,8 @@ made_run rows c h =
     by_test o true e = by_whole o (is_whole unbuilt o) e
     by_test o false e = absurd cc
 
-no_list : (t : Text) (o : RunOptions) → list_class t ≡ run_suite o → ⊥
-no_list t o e = absurd cc
+no_list : (l : ListOptions) (o : RunOptions) → list_class l ≡ run_suite o → ⊥
+no_list l o e = absurd cc
 
 no_asm : (a : AsmOptions) (o : RunOptions) → assemble_class a ≡ run_suite o → ⊥
 no_asm a o e = absurd cc
@@ -126,8 +128,8 @@ no_asm a o e = absurd cc
 no_suite : (g : GenerateOptions) (o : RunOptions) → generate_suite g ≡ run_suite o → ⊥
 no_suite g o e = absurd cc
 
-list_other : (t : Text) (o : GenerateOptions) → list_class t ≡ generate_suite o → ⊥
-list_other t o e = absurd cc
+list_other : (l : ListOptions) (o : GenerateOptions) → list_class l ≡ generate_suite o → ⊥
+list_other l o e = absurd cc
 
 asm_other : (a : AsmOptions) (o : GenerateOptions) → assemble_class a ≡ generate_suite o → ⊥
 asm_other a o e = absurd cc
