@@ -3,8 +3,9 @@ use Rattle.std.proofs.Common.{◌≡◌, ◌∙◌, sym, ap, refl, arith, ℕ, �
 use Rattle.std.specs.Prelude.{if◌then◌else◌}
 use Rattle.std.specs.Io.Iter.{u64_saturate}
 use Rattle.std.proofs.lemmas.Bool.{ltb-true, ltb-false, lt-ltb, le-ltb}
-use Rattle.mutator_ops.specs.Programs.{mutants}
+use Rattle.extra_mutators.specs.Lists.{mutants_with}
 use Rattle.class_link.specs.Info.{Info}
+use Rattle.class_model.specs.declared.mutator.Extra.{Extra}
 use Rattle.class_model.specs.declared.class.ClassId.{ClassId}
 use Rattle.mutest_engine.specs.Numbers.{numbers_from, numbers_of}
 use Rattle.mutest_engine.specs.Made.{refuse_many_mutants, HasTooMany}
@@ -28,8 +29,8 @@ pub same_mutants : (n m : ℕ) → n ≡ u64_saturate m → refuse_many_mutants 
 same_mutants n m is =
     ap (λ t. if t then Err (TooMany limit.Mutants 262145) else Ok tt) (by_test 262144 n m (ltb 262144 m) refl (λ lt. omega (arith, is, lt)) (λ le. omega (arith, is, le)))
 
-pub too_many : (p : List Info) (count number : ℕ) (ids : List ClassId) (r told : Refusal) → numbers_of ids ≡ numbers_from 0 count → number ≡ u64_saturate (length (mutants p ids)) → Err r ≡ refuse_many_mutants number
-    → stop.Refused r ≡ stop.Refused told → HasTooMany p count told
-too_many p count number ids r told first counted many is =
+pub too_many : (on : Extra) (p : List Info) (count number : ℕ) (ids : List ClassId) (r told : Refusal) → numbers_of ids ≡ numbers_from 0 count → number ≡ u64_saturate (length (mutants_with on p ids)) → Err r ≡ refuse_many_mutants number
+    → stop.Refused r ≡ stop.Refused told → HasTooMany on p count told
+too_many on p count number ids r told first counted many is =
     let same : r ≡ told = cc in
-    (mutants p ids, (ids, first, refl), sym (same_mutants number (length (mutants p ids)) counted) ∙ sym many ∙ ap (λ x. Err x) same)
+    (mutants_with on p ids, (ids, first, refl), sym (same_mutants number (length (mutants_with on p ids)) counted) ∙ sym many ∙ ap (λ x. Err x) same)

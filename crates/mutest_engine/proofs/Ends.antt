@@ -357,7 +357,7 @@ halt_states command halt.WantOfMemory P may some can said = (some, can, said som
 
 -- each command may be refused, as where it finds nothing
 pub some_stated : (command : Command) → (x : Result Answered Refusal) × CanState (Ok command) x
-some_stated (list_class path) = (Err (NotFound path), refl)
+some_stated (list_class options) = (Err (NotFound options.file), refl)
 some_stated (run_suite options) = (Err (NotFound []), inl tt)
 some_stated (assemble_class options) = (Err (NotFound options.text), refl)
 some_stated (generate_suite options) = (Err (NotFound []), tt)

@@ -9,6 +9,7 @@ use Rattle.std.specs.Ordering.{nat_cmp, match_ordering}
 use Rattle.std.specs.Cmp.Lexicographic.{slice_cmp, bytes_decides}
 use Rattle.std.specs.BTreeMap.{insert_entry}
 use Rattle.std.proofs.lemmas.List.Elements.{All-from_recursion, recursion_from_All, All-contains_itself}
+use Rattle.class_model.specs.declared.mutator.Extra.{Extra}
 use Rattle.class_model.specs.declared.class.Class.{Class}
 use Rattle.class_model.specs.declared.constant.Const.{Const}
 use Rattle.class_model.specs.declared.class.Member.{Member}
@@ -22,7 +23,7 @@ use Rattle.class_link.specs.declared.loaded.Loaded.{Loaded}
 use Rattle.class_link.specs.Info.{Info, own_name}
 use Rattle.mutator_ops.specs.Mutants.{class_mutants_by}
 use Rattle.mutator_ops.specs.Programs.{in_order, mutants_by_name, mutants_among}
-use Rattle.mutator_ops.specs.Table.{mutators}
+use Rattle.extra_mutators.specs.Lists.{table_with}
 use Rattle.mutator_ops.specs.declared.mutant.Mutant.{Mutant}
 use Rattle.mutant_apply.specs.Fitting.{Fits, IsFittingMutant}
 use Rattle.mutant_apply.specs.Laws.{MutantsFit}
@@ -179,8 +180,8 @@ listed p [] h = tt
 listed p (m ∷ ms) h = (record { file = h.0.0; found = h.0.1; fitting = h.0.2; fit = h.0.3 }, listed p ms h.1)
 
 -- The mutants of a suite are of the class files of its program.
-pub all_listed : MutantsFit → (s : LoadedSuite) (p : List Info) → IsFormed s → linked s ≡ Ok tt → files_of p ≡ suite_files s → All (IsListed p) (mutants_of s)
-all_listed fit s p forms ok same_files =
+pub all_listed : MutantsFit → (on : Extra) (s : LoadedSuite) (p : List Info) → IsFormed s → linked s ≡ Ok tt → files_of p ≡ suite_files s → All (IsListed p) (mutants_of on s)
+all_listed fit on s p forms ok same_files =
     let all = all_classes s in
     let cs = classes_in all in
     let files = class_file cs in
@@ -191,8 +192,8 @@ all_listed fit s p forms ok same_files =
     let some : AllByRecursion (λ (c : Class). IsSpelled c × (files (own_name c) ≡ Some c)) (classes_in s.classes) =
     front (λ (c : Class). IsSpelled c × (files (own_name c) ≡ Some c)) (classes_in s.classes) (classes_in s.tests)
     (subst (λ (ds : List Class). AllByRecursion (λ (c : Class). IsSpelled c × (files (own_name c) ≡ Some c)) ds) (classes_both s.classes s.tests) each) in
-    All-from_recursion (IsListed p) (mutants_of s)
-    (listed p (mutants_of s) (subst (λ (f : ClassFiles). AllByRecursion (IsListedIn f) (mutants_of s)) (sym same_files) (among_listed fit mutators files (classes_in s.classes) some)))
+    All-from_recursion (IsListed p) (mutants_of on s)
+    (listed p (mutants_of on s) (subst (λ (f : ClassFiles). AllByRecursion (IsListedIn f) (mutants_of on s)) (sym same_files) (among_listed fit (table_with on) files (classes_in s.classes) some)))
 
 -- ---- the classes that were read
 

@@ -125,7 +125,7 @@ module _ (o : GenerateOptions) (k : KnownJob) (known : IsGenerated o k) where
   suite_is : generated_suite o ≡ Ok suite
   suite_is =
       let made = known.made in
-      ap (λ x. and_then x made_suite) known.read ∙ made.stated
+      ap (λ x. and_then x (made_suite o.mutators)) known.read ∙ made.stated
 
   no_records : records_in k.history ≡ Ok []
   no_records = ap records_in known.none

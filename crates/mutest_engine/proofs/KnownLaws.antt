@@ -6,6 +6,7 @@ use Rattle.class_link.specs.declared.loaded.Loaded.{Loaded}
 use Rattle.class_records.specs.Profile.{profile}
 use Rattle.class_table.specs.declared.scripted.Test.{Test}
 use Rattle.history_rules.specs.Laws.{IsFormed}
+use Rattle.class_model.specs.declared.mutator.Extra.{Extra}
 use Rattle.machine_rules.specs.declared.machine.Limits.{Limits}
 use Rattle.mt_edge.specs.Files.{Files}
 use Rattle.mutator_ops.specs.declared.mutant.Mutant.{Mutant}
@@ -94,13 +95,13 @@ module _ (o : RunOptions) (s : LoadedSuite) (x : MadeSuite) (j : SuiteJob) (h : 
       let steps = h.steps in
       (λ i. record { limits = limits i; steps = steps i })
 
-  is_suite : IsMade s x → IsSuiteOf files x.program j
+  is_suite : IsMade o.mutators s x → IsSuiteOf files x.program j
   is_suite made = record {
     accepted = subst IsAccepted (sym suite_is) made.accepted;
     holds = made.holds;
   }
 
-  pub may_run : (old : OldRecords) (meter : ℕ) → AreLimited o → IsMade s x → All IsFormed (records_among old) → meter < 2 ^ 62 → MayRunJob x.program j old meter
+  pub may_run : (old : OldRecords) (meter : ℕ) → AreLimited o → IsMade o.mutators s x → All IsFormed (records_among old) → meter < 2 ^ 62 → MayRunJob x.program j old meter
   may_run old meter limited made formed few =
       let heap = ap (λ (q : Limits). q.heap) h.limits in
       let heap_most = limited.heap.most_is in
@@ -141,7 +142,7 @@ module _ (o : RunOptions) (s : LoadedSuite) (x : MadeSuite) (j : SuiteJob) (h : 
       (of : List Loaded) → IsSuiteOf of x.program j →
       Gives (job_made j.tests.now (job_reused (allowed_in j) (suite_of of x.program j) rs j.all) (job_answer (allowed_in j) (suite_of of x.program j) rs j.all)) result
 
-  pub gives_named : (rs : List RunRecord) (result : Result JobMade Stop) → IsMade s x → GivesOf rs result → Gives (job_made x.tests (named_reused o.matrix (allowed_by o) (named (suite_in s x)) rs) (named_answer o.matrix (allowed_by o) (named (suite_in s x)) rs)) result
+  pub gives_named : (rs : List RunRecord) (result : Result JobMade Stop) → IsMade o.mutators s x → GivesOf rs result → Gives (job_made x.tests (named_reused o.matrix (allowed_by o) (named (suite_in s x)) rs) (named_answer o.matrix (allowed_by o) (named (suite_in s x)) rs)) result
   gives_named rs result made gives = subst (λ (stated : Result JobMade Refusal). Gives stated result) (made_is rs) (gives files (is_suite made))
 
   bounds_are : (rs : List RunRecord) → job_bounds j.workers (job_cost (allowed_in j) (suite_of files x.program j) rs j.all) ≡ known_bounds o (named (suite_in s x)) rs
@@ -158,7 +159,7 @@ module _ (o : RunOptions) (s : LoadedSuite) (x : MadeSuite) (j : SuiteJob) (h : 
       (of : List Loaded) → IsSuiteOf of x.program j →
       Meters (job_bounds j.workers (job_cost (allowed_in j) (suite_of of x.program j) rs j.all)) before after result
 
-  pub meters_named : (rs : List RunRecord) (before after : ℕ) (result : Result JobMade Stop) → IsMade s x → MetersOf rs before after result → Meters (known_bounds o (named (suite_in s x)) rs) before after result
+  pub meters_named : (rs : List RunRecord) (before after : ℕ) (result : Result JobMade Stop) → IsMade o.mutators s x → MetersOf rs before after result → Meters (known_bounds o (named (suite_in s x)) rs) before after result
   meters_named rs before after result made meters = subst (λ (b : Bounds). Meters b before after result) (bounds_are rs) (meters files (is_suite made))
 
 -- ---- what is reported of it
@@ -191,15 +192,15 @@ counted_alike suite m n (Ok x) alike = ap (λ (k : ℕ). reported_with suite k (
 counted_alike suite m n (Err refusal) alike = refl
 
 -- With true old records it is what there is from scratch.
-every_is : AnswersAreFromScratch → (all : Bool) (a : Allowed) (s : LoadedSuite) (x : MadeSuite) (old : List RunRecord) → IsMade s x → AreTrue profile old → known_reported all a (named (suite_in s x)) old ≡ every_reported all a (named (suite_in s x)) old
-every_is law all a s x old made true_ones =
+every_is : AnswersAreFromScratch → (on : Extra) (all : Bool) (a : Allowed) (s : LoadedSuite) (x : MadeSuite) (old : List RunRecord) → IsMade on s x → AreTrue profile old → known_reported all a (named (suite_in s x)) old ≡ every_reported all a (named (suite_in s x)) old
+every_is law on all a s x old made true_ones =
     let suite = named (suite_in s x) in
     counted_alike suite (named_reused all a suite old) (scratch_reused all a suite old) (named_answer all a suite old) (counted_is law all a (suite_in s x) old made.accepted true_ones)
     ∙ ap (reported_with suite (scratch_reused all a suite old)) (scratch_is law all a (suite_in s x) old made.accepted true_ones)
 
-pub gives_every : AnswersAreFromScratch → (all : Bool) (a : Allowed) (s : LoadedSuite) (x : MadeSuite) (old : List RunRecord) (result : Result Reported Stop) → IsMade s x → AreTrue profile old
+pub gives_every : AnswersAreFromScratch → (on : Extra) (all : Bool) (a : Allowed) (s : LoadedSuite) (x : MadeSuite) (old : List RunRecord) (result : Result Reported Stop) → IsMade on s x → AreTrue profile old
     → Gives (known_reported all a (named (suite_in s x)) old) result → Gives (every_reported all a (named (suite_in s x)) old) result
-gives_every law all a s x old result made true_ones gives = subst (λ (stated : Result Reported Refusal). Gives stated result) (every_is law all a s x old made true_ones) gives
+gives_every law on all a s x old result made true_ones gives = subst (λ (stated : Result Reported Refusal). Gives stated result) (every_is law on all a s x old made true_ones) gives
 
 -- ---- behind the history's bytes
 
@@ -228,10 +229,10 @@ abbrev pub Found : Type 0
 Found = NamedSuite × List RunRecord
 
 -- All that is known, where a tree tells its files.
-known_so : (o : RunOptions) (k : KnownJob) (loaded : LoadedSuite) (files : Files) → IsMade loaded k.suite → suite_at o.classes o.tests files ≡ Ok loaded → history_bytes o.history files ≡ Ok k.history
+known_so : (o : RunOptions) (k : KnownJob) (loaded : LoadedSuite) (files : Files) → IsMade o.mutators loaded k.suite → suite_at o.classes o.tests files ≡ Ok loaded → history_bytes o.history files ≡ Ok k.history
     → before_runs o files ≡ and_then (records_in k.history) (λ old. Ok (named (suite_in loaded k.suite), old))
 known_so o k loaded files made read held =
-    ap (λ x. and_then x (λ l. and_then (made_suite l) (λ suite. and_then (old_records o.history files) (λ old. Ok (suite, old))))) read
+    ap (λ x. and_then x (λ l. and_then (made_suite o.mutators l) (λ suite. and_then (old_records o.history files) (λ old. Ok (suite, old))))) read
     ∙ ap (λ x. and_then x (λ suite. and_then (old_records o.history files) (λ old. Ok (suite, old)))) made.stated
     ∙ ap (λ x. and_then (and_then x records_in) (λ old. Ok (named (suite_in loaded k.suite), old))) held
 

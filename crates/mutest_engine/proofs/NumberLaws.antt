@@ -2,11 +2,12 @@
 use Rattle.std.proofs.Common.{◌≡◌, ◌∙◌, ℕ, zero, suc, ◌+◌, ◌<◌, List, [], ◌∷◌, ◌++◌, length, Option, Some, slice_get, refl, sym, ap, arith}
 use Rattle.std.specs.Prelude.{option_and_then, filter_map}
 use Rattle.std.specs.List.{cons_option}
+use Rattle.class_model.specs.declared.mutator.Extra.{Extra}
 use Rattle.class_model.specs.declared.class.Class.{Class}
 use Rattle.class_model.specs.declared.class.ClassId.{ClassId}
 use Rattle.class_link.specs.Info.{Info, file_in}
-use Rattle.mutator_ops.specs.Programs.{file_at, files_among, mutants_among, mutants}
-use Rattle.mutator_ops.specs.Table.{mutators}
+use Rattle.mutator_ops.specs.Programs.{file_at, files_among, mutants_among}
+use Rattle.extra_mutators.specs.Lists.{table_with, mutants_with}
 use Rattle.suite_runs.specs.Below.{HaveFirstNumbers}
 use Rattle.mutest_engine.specs.Numbers.{numbers_from, numbers_of}
 
@@ -40,8 +41,8 @@ by_number p [] = refl
 by_number p (id ∷ ids) = ap (cons_option (file_at p id)) (by_number p ids)
 
 -- The mutants of the first classes of a program.
-pub first_mutants : (p : List Info) (ids : List ClassId) (cs others : List Class) → HaveFirstNumbers p (cs ++ others) → numbers_of ids ≡ numbers_from 0 (length cs) → mutants p ids ≡ mutants_among mutators cs
-first_mutants p ids cs others are first =
-    ap (mutants_among mutators)
+pub first_mutants : (on : Extra) (p : List Info) (ids : List ClassId) (cs others : List Class) → HaveFirstNumbers p (cs ++ others) → numbers_of ids ≡ numbers_from 0 (length cs) → mutants_with on p ids ≡ mutants_among (table_with on) cs
+first_mutants on p ids cs others are first =
+    ap (mutants_among (table_with on))
     (by_number p ids ∙ ap (filter_map (λ k. option_and_then file_in (slice_get p k))) first
     ∙ gathered (λ k. option_and_then file_in (slice_get p k)) 0 cs others (λ j lt. ap (λ k. option_and_then file_in (slice_get p k)) (let e : 0 + j ≡ j = omega arith in e) ∙ are j lt))

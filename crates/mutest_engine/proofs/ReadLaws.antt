@@ -28,7 +28,7 @@ abbrev behind_suite : RunOptions → Files → NamedSuite → Result (NamedSuite
 behind_suite o files suite = and_then (old_records o.history files) (λ old. Ok (suite, old))
 
 abbrev behind_load : RunOptions → Files → LoadedSuite → Result (NamedSuite × List RunRecord) Refusal
-behind_load o files loaded = and_then (made_suite loaded) (behind_suite o files)
+behind_load o files loaded = and_then (made_suite o.mutators loaded) (behind_suite o files)
 
 -- ---- how it halts
 
@@ -36,17 +36,17 @@ pub loaded_halts : (held : Option Files) (o : RunOptions) (h : Halt) → IfSome 
 loaded_halts None o h halts = tt
 loaded_halts (Some files) o h halts = λ r e. ap (λ x. and_then x (behind_load o files)) (halts r e)
 
-pub made_halts : (held : Option Files) (o : RunOptions) (loaded : LoadedSuite) (s : Stop) (h : Halt) → IfSome held (λ files. suite_of o.classes o.tests files ≡ Ok loaded) → Refuses (λ r. made_suite loaded ≡ Err r) s → IsHaltOf s h → HaltsBefore held o h
+pub made_halts : (held : Option Files) (o : RunOptions) (loaded : LoadedSuite) (s : Stop) (h : Halt) → IfSome held (λ files. suite_of o.classes o.tests files ≡ Ok loaded) → Refuses (λ r. made_suite o.mutators loaded ≡ Err r) s → IsHaltOf s h → HaltsBefore held o h
 made_halts None o loaded s h read refuses is = tt
 made_halts (Some files) o loaded s h read refuses is = λ r e.
     ap (λ x. and_then x (behind_load o files)) read ∙ ap (λ x. and_then x (behind_suite o files)) (refuses r (is.0 r e))
 
 -- The history is at hand, once the suite is.
-read_so : (o : RunOptions) (files : Files) (loaded : LoadedSuite) (x : MadeSuite) → suite_of o.classes o.tests files ≡ Ok loaded → IsMade loaded x → before_runs o files ≡ behind_suite o files (named (suite_in loaded x))
+read_so : (o : RunOptions) (files : Files) (loaded : LoadedSuite) (x : MadeSuite) → suite_of o.classes o.tests files ≡ Ok loaded → IsMade o.mutators loaded x → before_runs o files ≡ behind_suite o files (named (suite_in loaded x))
 read_so o files loaded x read made =
     ap (λ y. and_then y (behind_load o files)) read ∙ ap (λ y. and_then y (behind_suite o files)) made.stated
 
-pub old_halts : (held left : Option Files) (o : RunOptions) (loaded : LoadedSuite) (x : MadeSuite) (h : Halt) → left ≡ held → IfSome held (λ files. suite_of o.classes o.tests files ≡ Ok loaded) → IsMade loaded x
+pub old_halts : (held left : Option Files) (o : RunOptions) (loaded : LoadedSuite) (x : MadeSuite) (h : Halt) → left ≡ held → IfSome held (λ files. suite_of o.classes o.tests files ≡ Ok loaded) → IsMade o.mutators loaded x
     → IfSome left (λ files. RefusesReading (λ r. history_bytes o.history files ≡ Err r) h) → HaltsBefore held o h
 old_halts held left o loaded x h same read made halts = by_held held read (subst (λ (t : Option Files). IfSome t (λ files. RefusesReading (λ r. history_bytes o.history files ≡ Err r) h)) same halts)
   where
@@ -61,8 +61,8 @@ old_halts held left o loaded x h same read made halts = by_held held read (subst
 pub of_suite : (o : RunOptions) (h : Halt) (before now : ℕ) → Halts IsLoading before now h → Halts (IsOfRun o) before now h
 of_suite o h before now halts = (λ r e. inl (loading_is_of_suite r (halts.0 r e)), halts.1)
 
-pub of_made_stop : (o : RunOptions) (loaded : LoadedSuite) (s : Stop) (h : Halt) (before now : ℕ) → Refuses (λ r. made_suite loaded ≡ Err r) s → IsHaltOf s h → Halts (IsOfRun o) before now h
-of_made_stop o loaded s h before now refuses is = (λ r e. inl (of_made loaded r (refuses r (is.0 r e))), λ faults e. absurd (is.1 faults e))
+pub of_made_stop : (o : RunOptions) (loaded : LoadedSuite) (s : Stop) (h : Halt) (before now : ℕ) → Refuses (λ r. made_suite o.mutators loaded ≡ Err r) s → IsHaltOf s h → Halts (IsOfRun o) before now h
+of_made_stop o loaded s h before now refuses is = (λ r e. inl (of_made o.mutators loaded r (refuses r (is.0 r e))), λ faults e. absurd (is.1 faults e))
 
 pub of_old : (o : RunOptions) (h0 h1 h2 : Option Files) (w0 w1 w2 r0 r1 r2 : ℕ) (h : Halt) → IsRead h0 h1 w0 w1 r0 r1 → IsRead h1 h2 w1 w2 r1 r2 × Halts (IsOfHistory o.history) r1 r2 h
     → IsRead h0 h2 w0 w2 r0 r2 × Halts (IsOfRun o) r0 r2 h
@@ -72,7 +72,7 @@ of_old o h0 h1 h2 w0 w1 w2 r0 r1 r2 h one other =
 
 -- ---- what is known
 
-pub known_is : (held left : Option Files) (o : RunOptions) (loaded : LoadedSuite) (x : MadeSuite) (history : Option (List ℕ)) → left ≡ held → IfSome held (λ files. suite_of o.classes o.tests files ≡ Ok loaded) → IsFormed loaded → IsMade loaded x
+pub known_is : (held left : Option Files) (o : RunOptions) (loaded : LoadedSuite) (x : MadeSuite) (history : Option (List ℕ)) → left ≡ held → IfSome held (λ files. suite_of o.classes o.tests files ≡ Ok loaded) → IsFormed loaded → IsMade o.mutators loaded x
     → IfSome left (λ files. history_bytes o.history files ≡ Ok history) → IsOfPath o.history history → IsKnownOf held o (record { suite = x; history = history })
 known_is held left o loaded x history same read formed made old path = record {
   loaded = loaded;

@@ -5,6 +5,7 @@ use Rattle.std.specs.List.{flat_map}
 use Rattle.std.proofs.lemmas.Bool.{ltb-true}
 use Rattle.program_rules.specs.Names.{Name}
 use Rattle.class_table.specs.declared.scripted.Test.{Test}
+use Rattle.class_model.specs.declared.mutator.Extra.{Extra}
 use Rattle.class_model.specs.declared.class.Class.{Class}
 use Rattle.class_link.specs.Info.{own_name}
 use Rattle.history_rules.specs.Histories.{HistoryText, most, read_as, told_length, written}
@@ -125,11 +126,11 @@ of_fault_found (Some f) r h = let e : BadProgram f ≡ r = cc in subst IsOfSuite
 of_accepted : (classes : List Class) (r : Refusal) → accepted classes ≡ Err r → IsOfSuite r
 of_accepted classes r h = of_fault_found (program_faults.first_fault classes) r h
 
-pub of_made : (s : LoadedSuite) (r : Refusal) → made_suite s ≡ Err r → IsOfSuite r
-of_made s r h =
+pub of_made : (on : Extra) (s : LoadedSuite) (r : Refusal) → made_suite on s ≡ Err r → IsOfSuite r
+of_made on s r h =
     and_err (linked s) _ r IsOfSuite (of_accepted (classes_in (all_classes s)) r)
     (λ ok. and_err (tests_of s) _ r IsOfSuite (of_tests (length (names_in (classes_in (all_classes s)))) (class_file (classes_in (all_classes s))) (map own_name (classes_in s.tests)) r)
-    (λ ts. and_err (refuse_many_mutants (length (mutants_of s))) _ r IsOfSuite (over (nat_lt 262144 (length (mutants_of s))) limit.Mutants 262145 tt r refl) (λ ok none. no_ok _ r (IsOfSuite r) none))) h
+    (λ ts. and_err (refuse_many_mutants (length (mutants_of on s))) _ r IsOfSuite (over (nat_lt 262144 (length (mutants_of on s))) limit.Mutants 262145 tt r refl) (λ ok none. no_ok _ r (IsOfSuite r) none))) h
 
 -- ---- of a history
 

@@ -3,7 +3,7 @@ use Rattle.std.proofs.Common.{◌≡◌, ◌∙◌, ℕ, List, [], Option, Some,
 use Rattle.std.specs.Prelude.{IfErr, IfOk}
 use Rattle.class_records.specs.Profile.{profile}
 use Rattle.mt_edge.specs.Files.{Files}
-use Rattle.mutest_words.specs.Words.{AsmOptions, Command, GenerateOptions, RunOptions, assemble_class, generate_suite, list_class, run_suite}
+use Rattle.mutest_words.specs.Words.{AsmOptions, Command, GenerateOptions, ListOptions, RunOptions, assemble_class, generate_suite, list_class, run_suite}
 use Rattle.record_rules.specs.declared.record.RunRecord.{RunRecord}
 use Rattle.report_pieces.specs.declared.input.Group.{Group}
 use Rattle.reuse_laws.specs.Jobs.{AreTrue}
@@ -86,12 +86,12 @@ loading_seen o (halt.ReadFault faults) loading = (nothing, may_nothing o, λ q e
 loading_seen o halt.WantOfMemory loading = (nothing, may_nothing o, λ q e. absurd cc)
 
 -- or no suite is made of them,
-pub making_seen : (o : RunOptions) (loaded : LoadedSuite) (s : Stop) (h : Halt) → IsFormed loaded → Refuses (λ r. made_suite loaded ≡ Err r) s → IsHaltOf s h → HaltsSeen o h
+pub making_seen : (o : RunOptions) (loaded : LoadedSuite) (s : Stop) (h : Halt) → IsFormed loaded → Refuses (λ r. made_suite o.mutators loaded ≡ Err r) s → IsHaltOf s h → HaltsSeen o h
 making_seen o loaded s h formed refuses is =
     (before_sources (Ok loaded) (Ok None), may_before o (Ok loaded) (Ok None) tt formed tt (none_of o.history), λ r e. ap (λ x. and_then x (behind_made (Ok None))) (refuses r (is.0 r e)))
 
 -- or the history isn't read.
-pub history_seen : (o : RunOptions) (loaded : LoadedSuite) (x : MadeSuite) (h : Halt) → IsFormed loaded → IsMade loaded x → RefusesReading (IsOfHistory o.history) h → HaltsSeen o h
+pub history_seen : (o : RunOptions) (loaded : LoadedSuite) (x : MadeSuite) (h : Halt) → IsFormed loaded → IsMade o.mutators loaded x → RefusesReading (IsOfHistory o.history) h → HaltsSeen o h
 history_seen o loaded x (halt.Refused r) formed made of =
     (before_sources (Ok loaded) (Err r), may_before o (Ok loaded) (Err r) tt formed (of r refl) tt, λ q e. let same : r ≡ q = cc in ap (λ y. and_then y (behind_made (Err r))) made.stated ∙ ap (λ y. Err y) same)
 history_seen o loaded x (halt.ReadFault faults) formed made of = (nothing, may_nothing o, λ q e. absurd cc)
@@ -106,9 +106,9 @@ before_seen o before h halts =
       halts.1,
       record {
         answer = λ r e. ap (λ (x : Result Found Refusal). and_then x (λ known. and_then (known_reported o.matrix (allowed_by o) known.0 known.1) (report_seen o s))) (refuses r e);
-        meter = early_meters (known_seen s) (λ known. known_bounds o known.0 known.1) before h refuses;
+        meter = early_meters (known_seen o s) (λ known. known_bounds o known.0 known.1) before h refuses;
         scratch = λ true_ones. λ r e. ap (λ (x : Result Found Refusal). and_then x (λ known. and_then (every_reported o.matrix (allowed_by o) known.0 known.1) (report_seen o s))) (refuses r e);
-        scratch_meter = λ true_ones. early_meters (known_seen s) (λ known. scratch_bounds_in o known.0 known.1) before h refuses;
+        scratch_meter = λ true_ones. early_meters (known_seen o s) (λ known. scratch_bounds_in o known.0 known.1) before h refuses;
       },
     )
 
@@ -149,17 +149,17 @@ module _ (held : Option Files) (o : RunOptions) (k : KnownJob) (known : IsKnownO
       named = named;
     }
 
-    known_is : known_seen seen ≡ and_then (records_in k.history) (λ old. Ok (own, old))
+    known_is : known_seen o seen ≡ and_then (records_in k.history) (λ old. Ok (own, old))
     known_is =
         let made = known.made in
         ap (λ x. and_then x (behind_made (Ok k.history))) made.stated
 
-    run_is : (next : Next) → and_then (known_seen seen) (λ x. and_then (next x.0 x.1) (report_seen o seen)) ≡ and_then (reports next) (report_seen o seen)
+    run_is : (next : Next) → and_then (known_seen o seen) (λ x. and_then (next x.0 x.1) (report_seen o seen)) ≡ and_then (reports next) (report_seen o seen)
     run_is next =
         ap (λ (r : Result Found Refusal). and_then r (λ x. and_then (next x.0 x.1) (report_seen o seen))) known_is
         ∙ nested {Y = Found} (records_in k.history) (λ old. (own, old)) (λ x. next x.0 x.1) (report_seen o seen)
 
-    bounds_are : (bounds : NamedSuite → List RunRecord → Bounds) → bounds_behind (known_seen seen) (λ x. bounds x.0 x.1) ≡ bounds_behind (records_in k.history) (bounds own)
+    bounds_are : (bounds : NamedSuite → List RunRecord → Bounds) → bounds_behind (known_seen o seen) (λ x. bounds x.0 x.1) ≡ bounds_behind (records_in k.history) (bounds own)
     bounds_are bounds =
         ap (λ (r : Result Found Refusal). bounds_behind r (λ x. bounds x.0 x.1)) known_is
         ∙ nested_bounds {Y = Found} (records_in k.history) (λ old. (own, old)) (λ x. bounds x.0 x.1)
@@ -254,7 +254,7 @@ unrefused before h none of = record {
 
 -- Each command may find nothing.
 some_seen : (command : Command) → (of : Stated) × MayState command of
-some_seen (list_class path) = (without_runs (list_seen path (Err (NotFound path))), (Err (NotFound path), (refl, refl, tt), refl))
+some_seen (list_class options) = (without_runs (list_seen options (Err (NotFound options.file))), (Err (NotFound options.file), (refl, refl, tt), refl))
 some_seen (run_suite o) = (stated_seen o nothing, (nothing, may_nothing o, refl))
 some_seen (assemble_class options) = (without_runs (asm_seen options (Err (NotFound options.text))), (Err (NotFound options.text), (refl, refl, tt), refl))
 some_seen (generate_suite options) = (generate_stated options, refl)
@@ -270,9 +270,9 @@ refused_seen (Ok command) before s h refuses is = let some = some_seen command i
 refused_seen (Err q) before s h refuses is = (without_runs (Err q), refl, no_runs (Err q) before (Err h) (λ r e. ap (λ x. Err x) (same_refusal q r (Err q) refl (refuses r (is.0 r e)))))
 
 module _ (words : Result Command Refusal) where
-  pub list_words : (path : List ℕ) (before : ℕ) (r : Result Answer Halt) → words ≡ Ok (list_class path) → GoesByFile path (list_seen path) r → GoesByWords words before before r
-  list_words path before r is goes =
-      subst (λ (w : Result Command Refusal). GoesByWords w before before r) (sym is) (without_runs (list_seen path goes.0), (goes.0, goes.1, refl), no_runs (list_seen path goes.0) before r goes.2)
+  pub list_words : (options : ListOptions) (before : ℕ) (r : Result Answer Halt) → words ≡ Ok (list_class options) → GoesByFile options.file (list_seen options) r → GoesByWords words before before r
+  list_words options before r is goes =
+      subst (λ (w : Result Command Refusal). GoesByWords w before before r) (sym is) (without_runs (list_seen options goes.0), (goes.0, goes.1, refl), no_runs (list_seen options goes.0) before r goes.2)
 
   pub run_words : (o : RunOptions) (before after : ℕ) (r : Result Answer Halt) → words ≡ Ok (run_suite o) → GoesByRun o before after r → GoesByWords words before after r
   run_words o before after r is goes = subst (λ (w : Result Command Refusal). GoesByWords w before after r) (sym is) (stated_seen o goes.0, (goes.0, goes.1, refl), goes.2)

@@ -7,6 +7,7 @@ use Rattle.class_link.specs.Info.{Info}
 use Rattle.class_link.specs.declared.loaded.Loaded.{Loaded}
 use Rattle.class_table.specs.Table.{IsProgram, look, name_at, names}
 use Rattle.class_table.specs.declared.scripted.Test.{Test}
+use Rattle.class_model.specs.declared.mutator.Extra.{Extra}
 use Rattle.mutator_ops.specs.declared.mutant.Mutant.{Mutant}
 use Rattle.mutant_apply.specs.Laws.{MutantsFit}
 use Rattle.suite_runs.specs.Below.{bytes_of, IsListed, files_of, IsReady}
@@ -45,11 +46,11 @@ mutants_few : (ms : List Mutant) → refuse_many_mutants (length ms) ≡ Ok tt �
 mutants_few ms few = bounded 262144 (length ms) (TooMany limit.Mutants 262145) (ltb 262144 (length ms)) refl few
 
 -- The mutants that the code asks of the program are those of the suite.
-pub mutants_are : (s : LoadedSuite) (p : List Info) (all : List Loaded) (count : ℕ) (ms : List Mutant) → HaveFirstNumbers p (classes_in all) → all ≡ all_classes s → count ≡ length s.classes → AreFirstMutants p count ms → ms ≡ mutants_of s
-mutants_are s p all count ms are is len found =
+pub mutants_are : (on : Extra) (s : LoadedSuite) (p : List Info) (all : List Loaded) (count : ℕ) (ms : List Mutant) → HaveFirstNumbers p (classes_in all) → all ≡ all_classes s → count ≡ length s.classes → AreFirstMutants on p count ms → ms ≡ mutants_of on s
+mutants_are on s p all count ms are is len found =
     let both : classes_in all ≡ classes_in s.classes ++ classes_in s.tests = ap (λ l. classes_in l) is ∙ classes_both s.classes s.tests in
     let as_long : count ≡ length (classes_in s.classes) = len ∙ same_length s.classes in
-    found.2 ∙ first_mutants p found.0 (classes_in s.classes) (classes_in s.tests) (subst (HaveFirstNumbers p) both are) (found.1 ∙ ap (numbers_from 0) as_long)
+    found.2 ∙ first_mutants on p found.0 (classes_in s.classes) (classes_in s.tests) (subst (HaveFirstNumbers p) both are) (found.1 ∙ ap (numbers_from 0) as_long)
   where
     same_length : (ls : List Loaded) → length ls ≡ length (classes_in ls)
     same_length [] = refl
@@ -77,32 +78,32 @@ refused_first all end.Memory s is told = λ r h.
     let both : stop.WantOfMemory ≡ stop.Refused r = sym told ∙ h in
     absurd cc
 
-abbrev counted : LoadedSuite → List Test → Result NamedSuite Refusal
-counted s ts = and_then (refuse_many_mutants (length (mutants_of s))) (λ ok. Ok (suite_with s ts))
+abbrev counted : Extra → LoadedSuite → List Test → Result NamedSuite Refusal
+counted on s ts = and_then (refuse_many_mutants (length (mutants_of on s))) (λ ok. Ok (suite_with on s ts))
 
-abbrev searched : LoadedSuite → Result NamedSuite Refusal
-searched s = and_then (tests_of s) (counted s)
+abbrev searched : Extra → LoadedSuite → Result NamedSuite Refusal
+searched on s = and_then (tests_of s) (counted on s)
 
 -- The classes are refused.
-pub program_refused : {X : Type 0} (s : LoadedSuite) (all : List Loaded) (e : ProgramEnd) (told : Stop) → all ≡ all_classes s → RefusesFirst {X = X} (classes_in all) (Err e) → IsStopOfProgram e told → Refuses (λ r. made_suite s ≡ Err r) told
-program_refused s all e told is first by = λ r h.
+pub program_refused : {X : Type 0} (on : Extra) (s : LoadedSuite) (all : List Loaded) (e : ProgramEnd) (told : Stop) → all ≡ all_classes s → RefusesFirst {X = X} (classes_in all) (Err e) → IsStopOfProgram e told → Refuses (λ r. made_suite on s ≡ Err r) told
+program_refused on s all e told is first by = λ r h.
     let by_classes : linked s ≡ Err r = ap (λ l. accepted (classes_in l)) (sym is) ∙ refused_first all e told first by r h in
-    ap (λ (x : Result (Unit {0}) Refusal). and_then x (λ ok. searched s)) by_classes
+    ap (λ (x : Result (Unit {0}) Refusal). and_then x (λ ok. searched on s)) by_classes
 
 -- The tests are refused.
-pub tests_refused : (s : LoadedSuite) (all : List Loaded) (r : Refusal) → first_fault (classes_in all) ≡ None → all ≡ all_classes s → tests_of s ≡ Err r → made_suite s ≡ Err r
-tests_refused s all r none is refused =
-    ap (λ (x : Result (Unit {0}) Refusal). and_then x (λ ok. searched s)) (is_program s all none is) ∙ ap (λ x. and_then x (counted s)) refused
+pub tests_refused : (on : Extra) (s : LoadedSuite) (all : List Loaded) (r : Refusal) → first_fault (classes_in all) ≡ None → all ≡ all_classes s → tests_of s ≡ Err r → made_suite on s ≡ Err r
+tests_refused on s all r none is refused =
+    ap (λ (x : Result (Unit {0}) Refusal). and_then x (λ ok. searched on s)) (is_program s all none is) ∙ ap (λ x. and_then x (counted on s)) refused
 
 -- The mutants are refused.
-pub mutants_refused : (s : LoadedSuite) (p : List Info) (all : List Loaded) (ts : List Test) (count : ℕ) (r : Refusal) → first_fault (classes_in all) ≡ None → all ≡ all_classes s → tests_of s ≡ Ok ts
-    → HaveFirstNumbers p (classes_in all) → count ≡ length s.classes → HasTooMany p count r → made_suite s ≡ Err r
-mutants_refused s p all ts count r none is found numbered len many =
-    let ms : many.0 ≡ mutants_of s = mutants_are s p all count many.0 numbered is len many.1 in
-    let own : refuse_many_mutants (length (mutants_of s)) ≡ Err r = ap (λ l. refuse_many_mutants (length l)) (sym ms) ∙ many.2 in
-    ap (λ (x : Result (Unit {0}) Refusal). and_then x (λ ok. searched s)) (is_program s all none is)
-    ∙ ap (λ x. and_then x (counted s)) found
-    ∙ ap (λ (x : Result (Unit {0}) Refusal). and_then x (λ ok. Ok (suite_with s ts))) own
+pub mutants_refused : (on : Extra) (s : LoadedSuite) (p : List Info) (all : List Loaded) (ts : List Test) (count : ℕ) (r : Refusal) → first_fault (classes_in all) ≡ None → all ≡ all_classes s → tests_of s ≡ Ok ts
+    → HaveFirstNumbers p (classes_in all) → count ≡ length s.classes → HasTooMany on p count r → made_suite on s ≡ Err r
+mutants_refused on s p all ts count r none is found numbered len many =
+    let ms : many.0 ≡ mutants_of on s = mutants_are on s p all count many.0 numbered is len many.1 in
+    let own : refuse_many_mutants (length (mutants_of on s)) ≡ Err r = ap (λ l. refuse_many_mutants (length l)) (sym ms) ∙ many.2 in
+    ap (λ (x : Result (Unit {0}) Refusal). and_then x (λ ok. searched on s)) (is_program s all none is)
+    ∙ ap (λ x. and_then x (counted on s)) found
+    ∙ ap (λ (x : Result (Unit {0}) Refusal). and_then x (λ ok. Ok (suite_with on s ts))) own
 
 -- ---- what it is
 
@@ -120,7 +121,7 @@ unfolding tests_named
 tests_found p own count ts h = all_found (Tests (length p) (files_of p) (map (name_at p) (numbers_from own count))) ts h
 
 -- What the code found, piece by piece.
-pub record AreFound (s : LoadedSuite) (x : MadeSuite) (all : List Loaded) (own count : ℕ) : Type 0 where
+pub record AreFound (on : Extra) (s : LoadedSuite) (x : MadeSuite) (all : List Loaded) (own count : ℕ) : Type 0 where
   pub formed : IsFormed s
   pub classes : all ≡ all_classes s
   pub faultless : first_fault (classes_in all) ≡ None
@@ -133,23 +134,23 @@ pub record AreFound (s : LoadedSuite) (x : MadeSuite) (all : List Loaded) (own c
   pub tests : tests_of s ≡ Ok x.tests
   pub found : tests_from x.program own count ≡ Ok x.tests
   pub few_tests : length x.tests ≤ 65535
-  pub mutants : x.mutants ≡ mutants_of s
+  pub mutants : x.mutants ≡ mutants_of on s
   pub few_mutants : refuse_many_mutants (length x.mutants) ≡ Ok tt
 
-module _ (fit : MutantsFit) (s : LoadedSuite) (x : MadeSuite) (all : List Loaded) (own count : ℕ) (h : AreFound s x all own count) where
-  stated_so : made_suite s ≡ Ok (named (suite_in s x))
+module _ (fit : MutantsFit) (on : Extra) (s : LoadedSuite) (x : MadeSuite) (all : List Loaded) (own count : ℕ) (h : AreFound on s x all own count) where
+  stated_so : made_suite on s ≡ Ok (named (suite_in s x))
   stated_so =
       let acc = is_program s all h.faultless h.classes in
-      let few : refuse_many_mutants (length (mutants_of s)) ≡ Ok tt = ap (λ l. refuse_many_mutants (length l)) (sym h.mutants) ∙ h.few_mutants in
+      let few : refuse_many_mutants (length (mutants_of on s)) ≡ Ok tt = ap (λ l. refuse_many_mutants (length l)) (sym h.mutants) ∙ h.few_mutants in
       let by_look : program s ≡ look x.program = ap (λ l. program_of (classes_in l)) (sym h.classes) ∙ sym h.look_is in
       let by_files : suite_files s ≡ files_of x.program = ap (λ l. class_file (classes_in l)) (sym h.classes) ∙ sym h.files_are in
       let by_mutants = sym h.mutants in
-      ap (λ (y : Result (Unit {0}) Refusal). and_then y (λ ok. searched s)) acc
-      ∙ ap (λ y. and_then y (counted s)) h.tests
-      ∙ ap (λ (y : Result (Unit {0}) Refusal). and_then y (λ ok. Ok (suite_with s x.tests))) few
+      ap (λ (y : Result (Unit {0}) Refusal). and_then y (λ ok. searched on s)) acc
+      ∙ ap (λ y. and_then y (counted on s)) h.tests
+      ∙ ap (λ (y : Result (Unit {0}) Refusal). and_then y (λ ok. Ok (suite_with on s x.tests))) few
       ∙ (λ i. Ok (record { look = by_look i; files = by_files i; held = bytes_of (all_classes s); tests = x.tests; mutants = by_mutants i }))
 
-  pub is_made : IsMade s x
+  pub is_made : IsMade on s x
   is_made =
       let acc = is_program s all h.faultless h.classes in
       let by_files : files_of x.program ≡ suite_files s = h.files_are ∙ ap (λ l. class_file (classes_in l)) h.classes in
@@ -169,7 +170,7 @@ module _ (fit : MutantsFit) (s : LoadedSuite) (x : MadeSuite) (all : List Loaded
           };
           names = map (name_at x.program) (numbers_from own count);
           tests = tests_found x.program own count x.tests h.found;
-          mutants = all_of_files x.program x.mutants (subst (All (IsListed x.program)) (sym h.mutants) (all_listed fit s x.program h.formed acc by_files));
+          mutants = all_of_files x.program x.mutants (subst (All (IsListed x.program)) (sym h.mutants) (all_listed fit on s x.program h.formed acc by_files));
         };
         holds = holds_files x.program (all_classes s) h.program_is.meant (subst (λ ls. IsMadeOf ls x.program) h.classes h.parts);
         ready = h.ready;

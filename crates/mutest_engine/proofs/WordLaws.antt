@@ -2,7 +2,7 @@
 use Rattle.std.proofs.Common.{◌≡◌, ℕ, ◌≤◌, List, Option, None, Some, Result, Ok, Err, refl, sym, ap, subst, arith}
 use Rattle.std.specs.Prelude.{IfErr}
 use Rattle.mt_edge.specs.Files.{Files}
-use Rattle.mutest_words.specs.Words.{AsmOptions, Command, GenerateOptions, RunOptions, assemble_class, generate_suite, list_class, run_suite}
+use Rattle.mutest_words.specs.Words.{AsmOptions, Command, GenerateOptions, ListOptions, RunOptions, assemble_class, generate_suite, list_class, run_suite}
 use Rattle.mutest_engine.specs.Answers.{Answered, answered}
 use Rattle.mutest_engine.specs.Decided.{HasTrueRecords, answer_of, answer_to, asm_answer, bounds_to, generate_answer, generate_bounds, generate_scratch, generate_scratch_bounds, list_answer, scratch_bounds_to, scratch_to}
 use Rattle.mutest_engine.specs.Ends.{AnswerMeters, AnswersHeld, MetersRun, MetersWords}
@@ -40,7 +40,7 @@ module _ (words : List (List ℕ)) where
 
   -- ---- from scratch
 
-  pub list_truly : (held : Option Files) (path : List ℕ) (r : Result Answer Halt) → words_of words ≡ Ok (list_class path) → AnswersHeld held (list_answer path) r → AnswersTruly held words r
+  pub list_truly : (held : Option Files) (options : ListOptions) (r : Result Answer Halt) → words_of words ≡ Ok (list_class options) → AnswersHeld held (list_answer options) r → AnswersTruly held words r
   list_truly None path r is answers = tt
   list_truly (Some files) path r is answers = λ true_ones. subst (λ (x : Result Command Refusal). ReadsBy answered (scratch_by x files) r) (sym is) answers
 
@@ -64,7 +64,7 @@ module _ (words : List (List ℕ)) where
 
   -- ---- the meter
 
-  pub list_meters : (held : Option Files) (path : List ℕ) (before : ℕ) (r : Result Answer Halt) → words_of words ≡ Ok (list_class path) → MetersWords held before before words r
+  pub list_meters : (held : Option Files) (options : ListOptions) (before : ℕ) (r : Result Answer Halt) → words_of words ≡ Ok (list_class options) → MetersWords held before before words r
   list_meters None path before r is = tt
   list_meters (Some files) path before r is = subst (λ (x : Result Command Refusal). AnswerMeters before before (bounds_to x files) r) (sym is) (none_meters before r)
 
@@ -90,7 +90,7 @@ module _ (words : List (List ℕ)) where
 
   -- ---- the meter from scratch
 
-  pub list_meters_truly : (held : Option Files) (path : List ℕ) (before : ℕ) (r : Result Answer Halt) → words_of words ≡ Ok (list_class path) → MetersTruly held before before words r
+  pub list_meters_truly : (held : Option Files) (options : ListOptions) (before : ℕ) (r : Result Answer Halt) → words_of words ≡ Ok (list_class options) → MetersTruly held before before words r
   list_meters_truly None path before r is = tt
   list_meters_truly (Some files) path before r is = λ true_ones. subst (λ (x : Result Command Refusal). AnswerMeters before before (scratch_bounds_to x files) r) (sym is) (none_meters before r)
 

@@ -8,7 +8,7 @@ use Rattle.mutest_engine.proofs.generated.generated_job.Goals as goal
 pub returns-in_err-loaded-clause-refused : goal.returns-in_err-loaded-clause-refused
 returns-in_err-loaded-clause-refused c =
     let q = err_from_is_err_and c.from_residual.result c.from_residual.ensures.1 in
-    rw (q.1, q.2) (λ r e. ap (λ x. and_then x made_suite) (c.in_err-loaded.ensures.value r e))
+    rw (q.1, q.2) (λ r e. ap (λ x. and_then x (made_suite c.args.options.mutators)) (c.in_err-loaded.ensures.value r e))
 
 pub returns-in_err-loaded-clause-refusal : goal.returns-in_err-loaded-clause-refusal
 returns-in_err-loaded-clause-refusal c =
@@ -18,7 +18,7 @@ returns-in_err-loaded-clause-refusal c =
 pub returns-in_err-suite-clause-refused : goal.returns-in_err-suite-clause-refused
 returns-in_err-suite-clause-refused c =
     let q = err_from_is_err_and c.from_residual-in_err-suite.result c.from_residual-in_err-suite.ensures.1 in
-    rw (q.1, q.2) (λ r e. ap (λ x. and_then x made_suite) c.in_ok-loaded.ensures.value ∙ c.in_err-suite.ensures.refused r e)
+    rw (q.1, q.2) (λ r e. ap (λ x. and_then x (made_suite c.args.options.mutators)) c.in_ok-loaded.ensures.value ∙ c.in_err-suite.ensures.refused r e)
 
 pub returns-in_err-suite-clause-refusal : goal.returns-in_err-suite-clause-refusal
 returns-in_err-suite-clause-refusal c =

@@ -92,7 +92,7 @@ returns-in_err-made-clause-scratch g c =
     let is = is_asked o suite c.as_slice-3.result c.as_slice-4.result c.from.result c.from-2.result c.as_slice-3.ensures c.as_slice-4.ensures c.from.ensures c.from-2.ensures in
     let q = err_from_is_err_and c.from_residual-in_err-made.result c.from_residual-in_err-made.ensures.1 in
     rw (q.1, q.2) (λ s made true_ones. after_records (every_reported o.matrix (allowed_by o) (named (suite_in s suite))) (records_in c.args.known.history) (indexed_records c.in_ok-index.index) (Err c.in_err-made.field-0.0) c.in_ok-index.ensures.value
-    (gives_every c.answers_are_from_scratch.ensures o.matrix (allowed_by o) s suite (indexed_records c.in_ok-index.index) (Err c.in_err-made.field-0.0) made (true_then (records_in c.args.known.history) (indexed_records c.in_ok-index.index) c.in_ok-index.ensures.value true_ones)
+    (gives_every c.answers_are_from_scratch.ensures o.mutators o.matrix (allowed_by o) s suite (indexed_records c.in_ok-index.index) (Err c.in_err-made.field-0.0) made (true_then (records_in c.args.known.history) (indexed_records c.in_ok-index.index) c.in_ok-index.ensures.value true_ones)
     (λ r e. job_refused (named (suite_in s suite)) _ r (gives_named o s suite job is (indexed_records c.in_ok-index.index) (Err c.in_err-made.field-0.0) made c.in_err-made.ensures.value r e))))
 
 pub returns-in_err-made-clause-meter : goal.returns-in_err-made-clause-meter
@@ -137,7 +137,7 @@ returns-clause-scratch g c =
     let files = files_of suite.program in
     let found = subst (λ (ts : List Test). AreFilesOf files ts suite.mutants c.in_ok-files.files) c.as_slice.ensures (subst (λ (ms : List Mutant). AreFilesOf files c.as_slice.result.now ms c.in_ok-files.files) c.as_slice-2.ensures c.in_ok-files.ensures) in
     λ s made true_ones. after_records (every_reported o.matrix (allowed_by o) (named (suite_in s suite))) (records_in c.args.known.history) (indexed_records c.in_ok-index.index) (Ok c.made_reported.result) c.in_ok-index.ensures.value
-    (gives_every c.answers_are_from_scratch.ensures o.matrix (allowed_by o) s suite (indexed_records c.in_ok-index.index) (Ok c.made_reported.result) made (true_then (records_in c.args.known.history) (indexed_records c.in_ok-index.index) c.in_ok-index.ensures.value true_ones)
+    (gives_every c.answers_are_from_scratch.ensures o.mutators o.matrix (allowed_by o) s suite (indexed_records c.in_ok-index.index) (Ok c.made_reported.result) made (true_then (records_in c.args.known.history) (indexed_records c.in_ok-index.index) c.in_ok-index.ensures.value true_ones)
     (job_reports (named (suite_in s suite)) _ c.in_ok-made.made _ (gives_named o s suite job is (indexed_records c.in_ok-index.index) (Ok c.in_ok-made.made) made c.in_ok-made.ensures.value) (c.made_reported.ensures files found)))
 
 pub returns-clause-meter : goal.returns-clause-meter

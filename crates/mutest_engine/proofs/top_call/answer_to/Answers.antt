@@ -1,7 +1,7 @@
 use Rattle.std.proofs.Common.{◌≡◌, map, Ok, subst}
 use Rattle.std.proofs.lemmas.Result.{err_from_is_err_and}
 use Rattle.std.specs.Prelude.{string_bytes}
-use Rattle.mutest_words.specs.Words.{as_asm_command, as_asm_options, as_command, as_generate_command, as_generate_options, as_run_command, as_run_options, list_class}
+use Rattle.mutest_words.specs.Words.{as_list_options, as_list_command, as_asm_command, as_asm_options, as_command, as_generate_command, as_generate_options, as_run_command, as_run_options, list_class}
 use Rattle.mutest_words.specs.declared.command.Command.{Command as Found}
 use Rattle.mutest_engine.specs.Words.{IsLimited, words_of}
 use Rattle.mutest_engine.proofs.Ends.{untold_answer, untold_halt}
@@ -47,37 +47,37 @@ pub returns-in-List-clause-value : goal.returns-in-List-clause-value
 returns-in-List-clause-value g c =
     let words = map string_bytes c.args.words.now.items in
     let is = subst (λ (x : Found). words_of words ≡ Ok (as_command x)) c.in-List.is c.in_ok-file.ensures.value in
-    command_held words (g.T.Tree.holds c.args.tree.now) (list_class c.in-List.file.now) c.list_answer.result is c.list_answer.ensures.value
+    command_held words (g.T.Tree.holds c.args.tree.now) (as_list_command c.in-List.options) c.list_answer.result is c.list_answer.ensures.value
 
 pub returns-in-List-clause-untold : goal.returns-in-List-clause-untold
 returns-in-List-clause-untold g c =
     let words = map string_bytes c.args.words.now.items in
     let is = subst (λ (x : Found). words_of words ≡ Ok (as_command x)) c.in-List.is c.in_ok-file.ensures.value in
-    untold_answer (words_of words) (list_class c.in-List.file.now) c.list_answer.result is c.list_answer.ensures.answer
+    untold_answer (words_of words) (as_list_command c.in-List.options) c.list_answer.result is c.list_answer.ensures.answer
 
 pub returns-in-List-clause-scratch : goal.returns-in-List-clause-scratch
 returns-in-List-clause-scratch g c =
     let words = map string_bytes c.args.words.now.items in
     let is = subst (λ (x : Found). words_of words ≡ Ok (as_command x)) c.in-List.is c.in_ok-file.ensures.value in
-    list_truly words (g.T.Tree.holds c.args.tree.now) c.in-List.file.now c.list_answer.result is c.list_answer.ensures.value
+    list_truly words (g.T.Tree.holds c.args.tree.now) (as_list_options c.in-List.options) c.list_answer.result is c.list_answer.ensures.value
 
 pub returns-in-List-clause-meter : goal.returns-in-List-clause-meter
 returns-in-List-clause-meter g c =
     let words = map string_bytes c.args.words.now.items in
     let is = subst (λ (x : Found). words_of words ≡ Ok (as_command x)) c.in-List.is c.in_ok-file.ensures.value in
-    list_meters words (g.T.Tree.holds c.args.tree.now) c.in-List.file.now c.args.meter.now c.list_answer.result is
+    list_meters words (g.T.Tree.holds c.args.tree.now) (as_list_options c.in-List.options) c.args.meter.now c.list_answer.result is
 
 pub returns-in-List-clause-scratch_meter : goal.returns-in-List-clause-scratch_meter
 returns-in-List-clause-scratch_meter g c =
     let words = map string_bytes c.args.words.now.items in
     let is = subst (λ (x : Found). words_of words ≡ Ok (as_command x)) c.in-List.is c.in_ok-file.ensures.value in
-    list_meters_truly words (g.T.Tree.holds c.args.tree.now) c.in-List.file.now c.args.meter.now c.list_answer.result is
+    list_meters_truly words (g.T.Tree.holds c.args.tree.now) (as_list_options c.in-List.options) c.args.meter.now c.list_answer.result is
 
 pub returns-in-List-clause-seen : goal.returns-in-List-clause-seen
 returns-in-List-clause-seen g c =
     let words = map string_bytes c.args.words.now.items in
     let is = subst (λ (x : Found). words_of words ≡ Ok (as_command x)) c.in-List.is c.in_ok-file.ensures.value in
-    list_words (words_of words) c.in-List.file.now c.args.meter.now c.list_answer.result is c.list_answer.ensures.seen
+    list_words (words_of words) (as_list_options c.in-List.options) c.args.meter.now c.list_answer.result is c.list_answer.ensures.seen
 
 -- ---- `run`
 
