@@ -4,7 +4,10 @@
 
 # The options that a command needs, those that it may have, and how many plain words.
 declare -A NEEDED=([run]='--classes --tests --report --new-history' [list]='' [asm]='--out' [generate]='')
-declare -A ALLOWED=([run]='--sources --history --workers --steps --heap --depth' [generate]='--workers')
+declare -A ALLOWED=([run]='--sources --history --workers --steps --heap --depth --mutators' [generate]='--workers --mutators'
+    [list]='--mutators')
+# The mutators that --mutators may name.
+FURTHER='NON_VOID_METHOD_CALLS CONSTRUCTOR_CALLS REMOVE_CONDITIONALS'
 # Those that have no value.
 declare -A FLAGS=([run]='--matrix' [generate]='--matrix')
 declare -A PLAIN=([run]=0 [list]=1 [asm]=1 [generate]=1)
@@ -70,8 +73,12 @@ read_words() {
     elif [ "$command" = run ]; then
         check_paths
         [ -n "$fault" ] || check_numbers
+        [ -n "$fault" ] || check_mutators
+    elif [ "$command" = list ]; then
+        check_mutators
     elif [ "$command" = generate ]; then
         check_numbers
+        check_mutators
         is_between "${plain[0]}" 1 200 || fault="generate takes a number of classes from 1 to 200"
     fi
 }
@@ -83,6 +90,19 @@ check_paths() {
     elif [ "${given[--report]}" = "${given[--history]-}" ]; then
         fault="--report and --history name one file"
     fi
+}
+
+# Names that --mutators may have, parted by commas, each once.
+check_mutators() {
+    local name seen=' '
+    local list=${given[--mutators]-none}
+    [ "$list" != none ] || return
+    while IFS= read -r -d , name; do
+        if [[ " $FURTHER " != *" $name "* || $name == *' '* || $seen == *" $name "* ]]; then
+            fault="--mutators takes one or more of $FURTHER, parted by commas, each once"
+        fi
+        seen+="$name "
+    done <<<"$list,"
 }
 
 # is_between NUMBER LEAST MOST: it has at most ten digits, and no zero before them.
