@@ -39,7 +39,7 @@ same_case (Some x) None e = absurd cc
 
 first : (P : Name → Type 0) (unclosed : List (Option Name)) (class : Option Name) → Known P unclosed → is_latest unclosed class ≡ true → (n : Name) × (class ≡ Some n) × P n
 first P [] class known e = absurd cc
-first P (latest ∷ unclosed) class known e = let k = same_case latest class e in (k.0, k.2.1, known.0 k.0 k.2.0)
+first P (latest ∷ unclosed) class known e = let k = same_case latest class e in (k.0, k.2, known.0 k.0 k.1)
 
 -- the class of a `new`
 abbrev IsMade : List Const → Insn → Name → Type 0
@@ -81,7 +81,7 @@ module _ (pool : List Const) where
       none (suc k) e = absurd cc
   closer P unclosed (insn ∷ insns) zero known e =
       let k = first P unclosed (initialized pool insn) known e in
-      record { class = k.0; call = insn; stands = refl; initializes = k.2.0; known = inl k.2.1 }
+      record { class = k.0; call = insn; stands = refl; initializes = k.1; known = inl k.2 }
   closer P unclosed (insn ∷ insns) (suc at) known e =
       let k = closer (λ n. P n ⊎ IsMade pool insn n) (open_behind pool unclosed insn) insns at (behind P unclosed insn known) e in
       record { class = k.class; call = k.call; stands = k.stands; initializes = k.initializes; known = later P insn insns at k.class k.known }

@@ -1,5 +1,5 @@
 -- Texts by number, with one text more; two texts of one number are one.
-use Rattle.std.proofs.Common.{◌≡◌, ◌∙◌, ℕ, ◌+◌, ◌-◌, ◌<◌, ◌≤◌, Bool, get_or, true, false, List, [], ◌∷◌, ◌++◌, length, map, take, Option, Some, None, refl, sym, ap, subst, arith}
+use Rattle.std.proofs.Common.{◌≡◌, ◌∙◌, ℕ, zero, suc, ◌+◌, ◌-◌, ◌<◌, ◌≤◌, Bool, get_or, true, false, List, [], ◌∷◌, ◌++◌, length, map, take, Option, Some, None, refl, sym, ap, subst, arith}
 use Rattle.std.specs.Prelude.{◌==◌, is_some, slice_get, option_and_then, unwrap_or, if◌then◌else◌}
 use Rattle.std.specs.BTreeMap as tree
 use Rattle.std.specs.Cmp.Lexicographic.{slice_cmp, same_text, bytes_decides}
@@ -81,12 +81,13 @@ index_case : (pool : List Const) (index : ℕ) (text : List ℕ) (b : Bool) → 
 index_case pool index text true zero e = absurd cc
 index_case pool index text false zero e =
     let k = some_case (slice_get pool (index - 1)) text e in
-    let lt = slice_get_within pool (index - 1) k.0 k.2.0 in
+    let lt = slice_get_within pool (index - 1) k.0 k.1 in
     let some : 0 < index = positive index zero in
-    record { above = some; within = omega (arith, lt, some); entry = k.0; stands = k.2.0; is = k.2.1 }
+    record { above = some; within = omega (arith, lt, some); entry = k.0; stands = k.1; is = k.2 }
   where
     positive : (n : ℕ) → (n == 0) ≡ false → 0 < n
-    positive n z = grind (arith, eq-eqb n 0)
+    positive zero z = absurd cc
+    positive (suc n) z = omega arith
 
 pub names_text : (pool : List Const) (index : ℕ) (text : List ℕ) → text_of pool index ≡ Some text → NamesText pool index text
 names_text pool index text e = index_case pool index text (index == 0) refl e
@@ -101,7 +102,7 @@ place_there : (pool : List Const) (index : ℕ) (text : List ℕ) → NamesText 
 place_there pool index text k =
     let stands : slice_get (texts pool) (index - 1) ≡ Some text = slice_get-map text_or_empty pool (index - 1) ∙ ap (option_map text_or_empty) k.stands ∙ ap Some k.is in
     let e = early text 0 (index - 1) (texts pool) stands in
-    (e.0, e.2.1)
+    (e.0, e.2)
 
 one_text : (pool : List Const) (a b : ℕ) (x y : List ℕ) → NamesText pool a x → NamesText pool b y → get_or (numbers pool) (a - 1) 0 ≡ get_or (numbers pool) (b - 1) 0 → x ≡ y
 one_text pool a b x y p q e =

@@ -232,6 +232,7 @@ impl<'a> Pool<'a> {
     }
 
     // Two indices name texts, and the same one.
+    #[tactic(auto, using(crate::proofs::TextLaws::one_number, crate::proofs::TextLaws::within_numbers, crate::proofs::OpeningLaws::none_same))]
     fn is_one_text(&self, a: u16, b: u16) -> bool
         ensures { result ≡ are_same (text_of self.now a) (text_of self.now b) }
     {

@@ -50,7 +50,8 @@ impl<'a> TextNumbers<'a> {
         };
         let mut before = 0;
         for entry in entries {
-            numbers.note(text_or_empty(entry), before)?;
+            let text = text_or_empty(entry);
+            numbers.note(text, before)?;
             before += 1;
         }
         Ok(numbers)
@@ -75,7 +76,8 @@ fn numbers_by(alloc: Global, entries: &[Const], known: &TextNumbers) -> Result<S
 {
     let mut numbers = Vec::with_capacity(alloc, entries.len())?;
     for entry in entries {
-        numbers.push(known.number(text_or_empty(entry)))?;
+        let number = known.number(text_or_empty(entry));
+        numbers.push(number)?;
     }
     Ok(Seq::from_vec(numbers))
 }

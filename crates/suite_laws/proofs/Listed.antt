@@ -287,10 +287,10 @@ truth_none constant asked insn =
 row_none : (by : Mutator) (asked : Asked) (closes : Bool) (insn : Insn) → puts_no_jump (row by asked closes insn) ≡ true
 row_none mutator.ConditionalsBoundary asked closes insn = exchanged_none (opcode_for bounds insn.op)
 row_none mutator.Increments asked closes insn = either_none (insn.op == 0x84) (negated insn.arg) None (negated_none insn.arg) others_none.0
-row_none mutator.InvertNegs asked closes insn = when_none (insn.op == 0x74 || insn.op == 0x75) (change.Alone 0x00) others_none.1.0
+row_none mutator.InvertNegs asked closes insn = when_none (insn.op == 0x74 || insn.op == 0x75) (change.Alone 0x00) others_none.1
 row_none mutator.Math asked closes insn = exchanged_none (opcode_for operations insn.op)
 row_none mutator.NegateConditionals asked closes insn = exchanged_none (opcode_for opposites insn.op)
-row_none mutator.VoidMethodCalls asked closes insn = when_none (is_void_call asked.pool insn) change.Pops others_none.1.1.0
+row_none mutator.VoidMethodCalls asked closes insn = when_none (is_void_call asked.pool insn) change.Pops others_none.2
 row_none mutator.EmptyReturns asked closes insn = given_none empty_return (returned_class asked insn) (λ class. returned_none (empty_value class))
 row_none mutator.FalseReturns asked closes insn = truth_none 0x03 asked insn
 row_none mutator.TrueReturns asked closes insn = truth_none 0x04 asked insn
@@ -301,7 +301,7 @@ row_none mutator.PrimitiveReturns asked closes insn =
     (when_none (gives_number asked.gives) (change.Returns (value.Constant 0x03)) (returns_none (value.Constant 0x03)))
     (when_none (insn.op == 0xad && gives_long asked.gives) (change.Returns (value.Constant 0x09)) (returns_none (value.Constant 0x09)))
 row_none mutator.NonVoidMethodCalls asked closes insn = called_none (called_type asked.pool insn)
-row_none mutator.ConstructorCalls asked closes insn = when_none closes change.Unmakes others_none.1.1.1
+row_none mutator.ConstructorCalls asked closes insn = when_none closes change.Unmakes others_none.3
 row_none mutator.RemoveConditionals asked closes insn = popped_none (opcode_for operand_pops insn.op) insn.op refl
 
 -- ---- changes
