@@ -1,9 +1,8 @@
 -- Runs of which the same is known say the same, and leave the same records.
-use Rattle.std.proofs.Common.{◌≡◌, ◌∙◌, ℕ, suc, ◌+◌, Bool, true, false, List, [], ◌∷◌, ◌++◌, length, map, refl, sym, ap}
+use Rattle.std.proofs.Common.{◌≡◌, ◌∙◌, suc, ◌+◌, Bool, true, false, List, [], ◌∷◌, ◌++◌, length, map, refl, sym, ap}
 use Rattle.std.specs.Prelude.{is_some, if◌then◌else◌, sum_by}
 use Rattle.std.specs.List.{list_any}
 use Rattle.std.proofs.lemmas.List.Sums.{sum_by-cons}
-use Rattle.mutator_ops.specs.declared.mutant.State.{State}
 use Rattle.record_rules.specs.declared.record.RunRecord.{RunRecord}
 use Rattle.record_rules.specs.Histories.{same_record}
 use Rattle.job_rules.specs.Tried.{Tried, known, saying, detections, detections_in, detects, needed, needed_of_all, is_among, firsts_after, records_once}

@@ -1,6 +1,6 @@
 -- The files of all shards lack nothing.
-use Rattle.std.proofs.Common.{◌≡◌, ◌∙◌, ℕ, zero, suc, ◌+◌, ◌%◌, ◌<◌, ◌≤◌, Bool, true, false, cond, List, [], ◌∷◌, ◌++◌, length, map, Option, Some, None, Ok, refl, sym, ap, subst, arith, nat_eq, mod-lt, Contains, ◌⊎◌, inl, inr, ⊎_elim}
-use Rattle.std.specs.Prelude.{All, ◌||◌, filter, if◌then◌else◌, is_none, is_some, find}
+use Rattle.std.proofs.Common.{◌≡◌, ◌∙◌, ℕ, suc, ◌+◌, ◌%◌, ◌<◌, ◌≤◌, Bool, true, false, cond, List, [], ◌∷◌, ◌++◌, map, Option, Some, None, Ok, refl, sym, ap, subst, arith, nat_eq, mod-lt, Contains, ◌⊎◌, inl, inr, ⊎_elim}
+use Rattle.std.specs.Prelude.{◌||◌, filter, if◌then◌else◌, is_some}
 use Rattle.std.specs.List.{AllByRecursion, enumerate_from, flat_map, list_any}
 use Rattle.std.specs.Option.{option_map, option_map_or}
 use Rattle.std.proofs.lemmas.Bool.{eqb-true, eq-eqb}
@@ -24,8 +24,7 @@ use Rattle.job_rules.specs.Shards.{owned_from}
 use Rattle.job_rules.specs.Tried.{Tried, known, need, needed, needed_of_all, is_among, firsts_after, records_once}
 use Rattle.suite_jobs.specs.Below.{ReuseChangesNothing, mutant_asked, original_asked}
 use Rattle.suite_jobs.specs.Jobs.{Allowed, Suite, IsAccepted, IsOfFile, covering, has_reached, job_runs, made_by, mutant_runs, mutant_tried, numbered, original_tried, says, tried_on, viable_file}
-use Rattle.job_answers.specs.declared.refusal.FailedTest.{FailedTest}
-use Rattle.job_answers.specs.Answers.{JobAnswer, answer_by, failed_by, failed_tests, job_answer, unless_passed}
+use Rattle.job_answers.specs.Answers.{JobAnswer, failed_by, failed_tests, job_answer, unless_passed}
 use Rattle.job_answers.specs.Laws.{AnswersAreTrue}
 use Rattle.job_answers.proofs.Answered.{answered}
 use Rattle.job_answers.proofs.Recorded.{Given, IsGood, IsRecordable, good_tests, original}
@@ -37,8 +36,8 @@ use Rattle.shard_rules.specs.Owners.{all_records, owner_of, records_of}
 use Rattle.shard_rules.specs.Sets.{has_index, shard_count}
 use Rattle.shard_laws.specs.Shards.{shard_suite}
 use Rattle.shard_laws.specs.Merges.{count_of, heads_of, is_lacking, lack_of, lacking_mutant, lacking_original, merge_runs, merged_at, merged_on, merged_tried, original_lack, placed_mutants}
-use Rattle.shard_laws.specs.Laws.{AreFilesOf, FilesOfAllMayBeMerged, IsFileOf, LacksNothing, MayBeMerged}
-use Rattle.shard_laws.proofs.Alike.{AreAlike, IsAlike, Runs, needed_alike}
+use Rattle.shard_laws.specs.Laws.{AreFilesOf, FilesOfAllMayBeMerged, IsFileOf, LacksNothing}
+use Rattle.shard_laws.proofs.Alike.{AreAlike, Runs, needed_alike}
 use Rattle.shard_laws.proofs.Found.{IsFound, all_of_owner, finds_none, is_here, join_all, none_lacking, still_there}
 use Rattle.shard_laws.proofs.Merged.{good_numbered, known_made, runs_alike}
 use Rattle.shard_laws.proofs.Shard.{own_accepted}

@@ -14,7 +14,7 @@ use Rattle.suite_jobs.specs.Laws.{steps_of}
 use Rattle.shard_rules.specs.Files.{Shard}
 use Rattle.shard_rules.specs.Owners.{all_records, records_of}
 use Rattle.shard_laws.specs.Merges.{wanted_of, wanted}
-use Rattle.shard_laws.proofs.Alike.{Runs, IsAlike, AreAlike}
+use Rattle.shard_laws.proofs.Alike.{Runs, AreAlike}
 
 -- ---- lists
 

@@ -1,7 +1,7 @@
 -- Records that no run of a merge can match may be left out.
-use Rattle.std.proofs.Common.{◌≡◌, ◌∙◌, ℕ, zero, suc, ◌+◌, Bool, true, false, cond, List, [], ◌∷◌, ◌++◌, map, Option, Some, None, Result, Ok, refl, sym, ap, subst, arith, nat_eq, slice_get}
+use Rattle.std.proofs.Common.{◌≡◌, ◌∙◌, ℕ, suc, ◌+◌, Bool, true, false, List, [], ◌∷◌, ◌++◌, map, Option, Some, None, Ok, refl, sym, ap, subst, arith, nat_eq, slice_get}
 use Rattle.std.specs.Prelude.{filter, find, if◌then◌else◌, is_none}
-use Rattle.std.specs.List.{enumerate_from, flat_map}
+use Rattle.std.specs.List.{enumerate_from}
 use Rattle.std.specs.Option.{option_map, option_map_or, option_or}
 use Rattle.std.proofs.lemmas.Bool.{eqb-true}
 use Rattle.std.proofs.lemmas.List.Concat.{flat_map-cons}
@@ -10,7 +10,6 @@ use Rattle.codec_rules.specs.Sequence.{◌>>=◌, or_fault}
 use Rattle.machine_rules.specs.Runs.{limit_of}
 use Rattle.class_table.specs.declared.scripted.Test.{Test}
 use Rattle.mutator_ops.specs.declared.mutant.Mutant.{Mutant}
-use Rattle.mutator_ops.specs.declared.mutant.Verdict.{Verdict}
 use Rattle.record_rules.specs.declared.record.RunRecord.{RunRecord}
 use Rattle.record_rules.specs.Histories.{same_record}
 use Rattle.record_rules.specs.Jobs.{with_limit}
@@ -20,15 +19,13 @@ use Rattle.reuse_laws.specs.Finding.{KeptAreEnough}
 use Rattle.job_rules.specs.Tried.{JobRuns, Tried, known, need, records_once}
 use Rattle.suite_jobs.specs.Below.{mutant_asked, not_viable, original_asked}
 use Rattle.suite_jobs.specs.Jobs.{Allowed, Suite, covering, has_reached, made_by, numbered, original_tried, says, tried_on, viable_file}
-use Rattle.job_answers.specs.Answers.{JobAnswer, cell_total, failed_tests, unless_failed, unless_many, verdict_of_runs}
+use Rattle.job_answers.specs.Answers.{cell_total, failed_tests, unless_failed, unless_many, verdict_of_runs}
 use Rattle.shard_rules.specs.declared.head.Head.{Head}
-use Rattle.shard_rules.specs.declared.lack.Lack.{Lack}
 use Rattle.shard_rules.specs.Files.{Shard}
 use Rattle.shard_rules.specs.Owners.{all_records, owner_of, records_of}
 use Rattle.shard_rules.specs.Sets.{shard_count}
-use Rattle.shard_laws.specs.declared.refusal.MergeRefusal.{MergeRefusal}
 use Rattle.shard_laws.specs.declared.refusal.MergeRefusal.TheVariants.{Refused}
-use Rattle.shard_laws.specs.Merges.{KeepsEnough, count_of, heads_of, is_lacking, kept_of, lacking_mutant, lacking_original, merge_answer, merge_runs, merged_at, merged_by, merged_on, merged_tried, merged_verdict, original_lack, placed_mutants, unless_lacking}
+use Rattle.shard_laws.specs.Merges.{KeepsEnough, count_of, heads_of, is_lacking, kept_of, lacking_mutant, merge_answer, merge_runs, merged_at, merged_on, merged_tried, merged_verdict, original_lack, placed_mutants, unless_lacking}
 use Rattle.shard_laws.specs.Laws.{MergesGoByKept}
 
 -- ---- matches

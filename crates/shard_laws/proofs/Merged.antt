@@ -1,6 +1,6 @@
 -- With true records a merge that lacks nothing answers what one call with all of them answers.
-use Rattle.std.proofs.Common.{◌≡◌, ◌∙◌, ℕ, suc, ◌+◌, Bool, true, false, cond, List, [], ◌∷◌, ◌++◌, length, map, Option, Some, None, Ok, Err, Result, refl, sym, ap, subst, arith}
-use Rattle.std.specs.Prelude.{All, if◌then◌else◌, is_none, is_some, filter, find, nat_lt}
+use Rattle.std.proofs.Common.{◌≡◌, ◌∙◌, ℕ, ◌+◌, Bool, true, false, cond, List, [], ◌∷◌, ◌++◌, length, map, Option, Some, None, Ok, Err, refl, sym, ap}
+use Rattle.std.specs.Prelude.{if◌then◌else◌, is_none, filter, find, nat_lt}
 use Rattle.std.specs.List.{AllByRecursion, enumerate_from}
 use Rattle.std.specs.Option.{option_map, option_map_or, option_or, unwrap_or}
 use Rattle.std.proofs.lemmas.List.Elements.{All-from_recursion, recursion_from_All}
@@ -8,28 +8,24 @@ use Rattle.class_model.specs.declared.class.Class.{Class}
 use Rattle.machine_rules.specs.Runs.{limit_of}
 use Rattle.class_table.specs.declared.scripted.Test.{Test}
 use Rattle.mutator_ops.specs.declared.mutant.Mutant.{Mutant}
-use Rattle.mutator_ops.specs.declared.mutant.Verdict.{Verdict}
 use Rattle.class_records.specs.Profile.{profile}
 use Rattle.record_rules.specs.declared.record.RunRecord.{RunRecord}
-use Rattle.record_rules.specs.Histories.{same_record}
 use Rattle.record_rules.specs.Jobs.{with_limit, end_of}
 use Rattle.record_rules.specs.Matching.{first_match}
 use Rattle.record_rules.specs.Records.{Asked, record_of}
 use Rattle.record_rules.specs.Truth.{IsTrueRecord}
-use Rattle.job_rules.specs.Tried.{Tried, known, detections, need, needed, needed_of_all}
+use Rattle.job_rules.specs.Tried.{Tried, known, needed_of_all}
 use Rattle.suite_jobs.specs.Below.{ReuseChangesNothing, mutant_asked, not_viable, original_asked}
-use Rattle.suite_jobs.specs.Jobs.{Allowed, Suite, IsAccepted, IsOfFile, covering, has_reached, job_runs, made_by, mutant_runs, mutant_tried, numbered, original_tried, says, tried_on, viable_file}
-use Rattle.suite_jobs.specs.Laws.{steps_of}
+use Rattle.suite_jobs.specs.Jobs.{Allowed, Suite, IsAccepted, IsOfFile, covering, has_reached, job_runs, made_by, mutant_runs, numbered, original_tried, says, tried_on, viable_file}
 use Rattle.job_answers.specs.declared.refusal.FailedTest.{FailedTest}
-use Rattle.job_answers.specs.declared.refusal.JobRefusal.{JobRefusal}
 use Rattle.job_answers.specs.declared.refusal.JobRefusal.TheVariants.{TooManyCells}
-use Rattle.job_answers.specs.Answers.{JobAnswer, answer_by, cell_total, failed_tests, job_answer, most_cells, unless_failed, unless_many, verdict_in, verdict_of_runs, verdict_with}
-use Rattle.job_answers.specs.Laws.{AnswersAreFromScratch, HasRecord}
-use Rattle.job_answers.proofs.Recorded.{Given, IsGood, IsRecordable, good_tests, mutant, original}
+use Rattle.job_answers.specs.Answers.{JobAnswer, answer_by, cell_total, failed_tests, job_answer, most_cells, unless_failed, unless_many, verdict_in, verdict_with}
+use Rattle.job_answers.specs.Laws.{AnswersAreFromScratch}
+use Rattle.job_answers.proofs.Recorded.{Given, IsGood, IsRecordable, good_tests, mutant}
 use Rattle.shard_rules.specs.Files.{Shard}
 use Rattle.shard_rules.specs.Owners.{all_records, owner_of, records_of}
-use Rattle.shard_laws.specs.Merges.{count_of, is_lacking, lack_of, lacking_mutant, lacking_original, merge_answer, merge_runs, merged_at, merged_by, merged_on, merged_tried, merged_verdict, original_lack, placed_mutants, wanted}
-use Rattle.shard_laws.specs.Laws.{IsAsOneCall, MergesAreAsOneCall}
+use Rattle.shard_laws.specs.Merges.{count_of, is_lacking, lack_of, lacking_mutant, lacking_original, merge_runs, merged_at, merged_by, merged_on, merged_tried, merged_verdict, original_lack, placed_mutants, wanted}
+use Rattle.shard_laws.specs.Laws.{MergesAreAsOneCall}
 use Rattle.shard_laws.proofs.Alike.{AllAlike, AreAlike, IsAlike, Runs, all_needed_alike, append_alike, detections_alike, knowns_alike, once_alike, tests_alike, totals_alike}
 use Rattle.shard_laws.proofs.Complete.{merged_is}
 use Rattle.shard_laws.proofs.Found.{IsFound, Keeps, all_found, all_of_owner, all_reused, found_alike, is_there, join_all, match_all, no_cost, no_need_cost, none_passes, still_there, unmapped}

@@ -1,13 +1,10 @@
 -- The job of a shard is that of an accepted suite.
-use Rattle.std.proofs.Common.{◌≡◌, ℕ, suc, ◌+◌, ◌%◌, Bool, true, false, List, [], ◌∷◌, nat_eq}
-use Rattle.std.specs.Prelude.{All, if◌then◌else◌, Ok}
+use Rattle.std.proofs.Common.{ℕ, suc, ◌+◌, ◌%◌, Bool, true, false, List, [], ◌∷◌, nat_eq}
+use Rattle.std.specs.Prelude.{if◌then◌else◌}
 use Rattle.std.specs.List.{AllByRecursion}
 use Rattle.std.proofs.lemmas.List.Elements.{All-from_recursion, recursion_from_All}
-use Rattle.record_rules.specs.declared.record.RunRecord.{RunRecord}
-use Rattle.mutator_ops.specs.declared.mutant.Mutant.{Mutant}
 use Rattle.job_rules.specs.Shards.{owned_from}
-use Rattle.suite_jobs.specs.Jobs.{Allowed, Suite, IsAccepted, IsOfFile}
-use Rattle.job_answers.specs.Answers.{JobAnswer, job_answer}
+use Rattle.suite_jobs.specs.Jobs.{Suite, IsAccepted, IsOfFile}
 use Rattle.job_answers.specs.Laws.{AnswersAreAsAsked, AnswersAreOfAllTests, CostsAreAsAsked}
 use Rattle.job_answers.proofs.Answered.{answered}
 use Rattle.shard_laws.specs.Shards.{shard_suite}

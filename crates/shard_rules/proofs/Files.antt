@@ -7,7 +7,7 @@ use Rattle.std.proofs.lemmas.List.{drop_at, length-append}
 use Rattle.codec_rules.specs.Input.{Input, IsBytes}
 use Rattle.codec_rules.specs.Sequence.{◌>>=◌, or_fault}
 use Rattle.codec_rules.specs.Spelling.{input_at}
-use Rattle.codec_rules.proofs.Sequence.{bind_ok, ok_is, or_fault_ok, guard_ok, guard_passed}
+use Rattle.codec_rules.proofs.Sequence.{bind_ok, ok_is, or_fault_ok, guard_passed}
 use Rattle.codec_rules.proofs.Numbers.{wide16, wide32}
 use Rattle.record_rules.specs.declared.record.RunRecord.{RunRecord}
 use Rattle.history_rules.specs.declared.fault.HistoryFault.{HistoryFault}
@@ -24,7 +24,7 @@ use Rattle.shard_rules.specs.declared.head.HeadFault.{HeadFault}
 use Rattle.shard_rules.specs.declared.head.HeadFault.TheVariants.{Bad}
 use Rattle.shard_rules.specs.Heads.{u2_at, u4_at, where_at, head_at, head_bytes, IsHead, magic}
 use Rattle.shard_rules.specs.Files.{Shard, front_at, second_at, bad_from, records_from, shard_at, most, shard_of, ShardText}
-use Rattle.shard_rules.specs.Laws.{AreReadAsSpelled, IsShardFile, ShardsAreReadAsSpelled}
+use Rattle.shard_rules.specs.Laws.{IsShardFile, ShardsAreReadAsSpelled}
 use Rattle.shard_rules.proofs.Heads.{head_codec, u2_codec, u4_codec}
 
 -- ---- the front of a history

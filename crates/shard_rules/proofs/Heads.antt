@@ -1,9 +1,9 @@
 -- Heads are read as they are spelled.
-use Rattle.std.proofs.Common.{◌≡◌, ℕ, ◌+◌, ◌<◌, ◌≤◌, ◌^◌, Bool, true, false, List, ◌++◌, length, Option, Some, None, Result, Ok, Err, refl, sym, ap, subst, ◌∙◌, arith}
+use Rattle.std.proofs.Common.{◌≡◌, ℕ, ◌+◌, ◌<◌, ◌≤◌, ◌^◌, Bool, true, false, List, ◌++◌, length, Option, Some, None, Result, Ok, refl, sym, ap, subst, ◌∙◌, arith}
 use Rattle.std.specs.Prelude.{◌==◌, nat_lt, if◌then◌else◌}
 use Rattle.std.specs.Int.{w16, w32, to_be_bytes}
 use Rattle.std.proofs.lemmas.Bool.{eqb-true, ltb-true, ltb-false, lt-ltb, le-ltb}
-use Rattle.codec_rules.specs.Input.{Input, IsBytes}
+use Rattle.codec_rules.specs.Input.{Input}
 use Rattle.codec_rules.specs.Sequence.{◌>>=◌, unless}
 use Rattle.codec_rules.specs.Spelling.{Takes, IsCodecAt, input_at}
 use Rattle.codec_rules.proofs.Sequence.{bind_ok, unless_ok}
@@ -13,7 +13,7 @@ use Rattle.history_rules.proofs.Codecs.{tested_from}
 use Rattle.shard_rules.specs.declared.head.Head.{Head}
 use Rattle.shard_rules.specs.declared.head.HeadFault.{HeadFault}
 use Rattle.shard_rules.specs.declared.head.HeadFault.TheVariants.{Bad}
-use Rattle.shard_rules.specs.Heads.{FrontReader, u2_at, u4_at, where_at, magic, most_shards, number_fault, head_of, head_at, head_bytes, IsHead}
+use Rattle.shard_rules.specs.Heads.{FrontReader, u2_at, u4_at, where_at, magic, most_shards, number_fault, head_of, head_at, IsHead}
 use Rattle.shard_rules.specs.Laws.{HeadsAreReadAsSpelled}
 
 pub u2_codec : IsCodecAt u2_at (λ at. to_be_bytes w16) (λ n. n < 2 ^ 16)

@@ -14,7 +14,7 @@ use Rattle.history_rules.specs.Items.{FileReader, u1_at, u2_at, u4_at, u8_at, ta
 use Rattle.history_rules.specs.Classes.{class_at, is_other_class, place_behind, with_class}
 use Rattle.history_rules.specs.Entries.{Entry, Used, entry_at, is_line_behind, is_new, is_number, is_place, pair_at, with_entry, with_pair}
 use Rattle.history_rules.specs.Reading.{are_steps, cause_at, entries_at, failed_at, is_paired, outcome_at, pairs_at, record_at, told_cause_at}
-use Rattle.history_rules.specs.Histories.{Contents, at_front, contents_at, contents_of, is_other, is_used_up, is_version, magic, most, next_record_at, no_past, read_as, records_under, used_in, whole_of, with_record}
+use Rattle.history_rules.specs.Histories.{Contents, at_front, contents_at, contents_of, is_other, is_used_up, is_version, magic, most, next_record_at, no_past, records_under, used_in, whole_of, with_record}
 use Rattle.shard_rules.specs.Laws.{FaultsArePlaced, IsPlaced}
 use Rattle.history_rules.specs.declared.fault.HistoryFault.{HistoryFault}
 use Rattle.history_rules.specs.declared.fault.HistoryFault.TheVariants.{HistoryBad, TooLong, Memory}

@@ -1,7 +1,7 @@
 -- Heads have no fault exactly where they are those of all shards, each once.
-use Rattle.std.proofs.Common.{◌≡◌, ◌∙◌, ℕ, zero, suc, ◌+◌, ◌<◌, ◌≤◌, Bool, true, false, cond, List, [], ◌∷◌, length, take, Option, Some, None, refl, sym, ap, subst, arith, nat_eq, slice_get, inl, inr}
-use Rattle.std.specs.Prelude.{find, not, ◌||◌, All, option_map, slice_index_or}
-use Rattle.std.specs.List.{enumerate_from, list_any, range_with_len}
+use Rattle.std.proofs.Common.{◌≡◌, ◌∙◌, ℕ, zero, suc, ◌+◌, ◌<◌, ◌≤◌, Bool, true, false, cond, List, [], ◌∷◌, take, Option, Some, None, refl, sym, ap, subst, arith, nat_eq, slice_get, inl, inr}
+use Rattle.std.specs.Prelude.{find, not, ◌||◌, option_map, slice_index_or}
+use Rattle.std.specs.List.{enumerate_from, range_with_len}
 use Rattle.std.specs.Option.{option_or}
 use Rattle.std.proofs.lemmas.Bool.{eqb-true, eq-eqb, cases_lt}
 use Rattle.std.proofs.lemmas.Option.{slice_get-get_or, slice_get_within, get_or_from_slice_get}
