@@ -3,6 +3,8 @@
 //! - `read` and `cuts`, the profile number, and the bytes of a shard file in hexadecimal digits: the
 //!   shard and the number of its records, or the place of the fault; the places of the faults where
 //!   so many bytes are left, from none on
+//! - `kept`, the profile number, and the bytes of a shard file: those of the file with only the first
+//!   of two records, and so on
 //! - `text`, a shard, and the bytes of a history: the bytes of its file
 //! - `set` and shards: whether they are all, each once
 //! - `owned`, a shard, and how many places there are: those that it owns
@@ -11,8 +13,8 @@
 
 use class_model::Seq;
 use shard_merge::{
-    Head, HeadFault, SetFault, ShardFault, check_set, owned, owns, read_head, read_shard,
-    shard_text,
+    Head, HeadFault, SetFault, ShardFault, check_set, kept_text, owned, owns, read_head,
+    read_shard, shard_text,
 };
 use std::alloc::Global;
 
@@ -122,6 +124,24 @@ fn push_cuts(alloc: Global, profile: u16, bytes: &[u8], out: &mut String) -> any
     Ok(())
 }
 
+// The file with only the records at places that leave 0 when divided by two.
+fn push_kept(word: &str, digits: &str, out: &mut String) -> anyhow::Result<()> {
+    let alloc = *out.allocator();
+    let profile = word.parse::<u16>()?;
+    let bytes = bytes_of(alloc, digits.as_bytes())?;
+    let Ok(file) = read_shard(alloc, profile, bytes.as_slice()) else {
+        anyhow::bail!("no shard file");
+    };
+    let mut which = Vec::new(alloc);
+    for place in 0..file.history.rows().len() {
+        which.push(place % 2 == 0)?;
+    }
+    match kept_text(alloc, profile, &file, which.as_slice()) {
+        Ok(text) => push_hex(out, text.as_slice()),
+        Err(_) => push(out, "no text"),
+    }
+}
+
 fn push_file(word: &str, digits: &str, cuts: bool, out: &mut String) -> anyhow::Result<()> {
     let alloc = *out.allocator();
     let profile = word.parse::<u16>()?;
@@ -208,6 +228,7 @@ fn push_told(asked: &str, word: &str, rest: &str, out: &mut String) -> anyhow::R
     match asked {
         "read" => push_file(word, rest, false, out),
         "cuts" => push_file(word, rest, true, out),
+        "kept" => push_kept(word, rest, out),
         "text" => push_text(word, rest, out),
         "owned" => push_owned(word, rest, out),
         _ => anyhow::bail!("an unknown question"),

@@ -4,6 +4,7 @@
 mod fault;
 mod file;
 mod head;
+mod kept;
 mod owner;
 mod set;
 mod text;
@@ -11,6 +12,7 @@ mod text;
 pub use fault::ShardFault;
 pub use file::{ShardFile, read_shard};
 pub use head::read_head;
+pub use kept::kept_text;
 pub use owner::{owned, owns};
 pub use set::check_set;
 pub use shard_rules::{Head, HeadFault, SetFault};
