@@ -20,3 +20,4 @@ pub mod SplicedMembers
 pub mod Bounds
 pub mod Splices
 pub mod Applied
+pub mod Laid

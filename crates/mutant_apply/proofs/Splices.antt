@@ -119,7 +119,7 @@ entries_of class = flat_map entry_bytes class.pool
 abbrev count_of : Class → List ℕ
 count_of class = to_be_bytes w16 (length class.pool + 1)
 
-abbrev methods_at : Class → ℕ
+abbrev pub methods_at : Class → ℕ
 methods_at class = length ((version_bytes class ++ pool_bytes class.pool) ++ middle_bytes class)
 
 abbrev Parting : Class → Edit → Parts → Member → Type 0

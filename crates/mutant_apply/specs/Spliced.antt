@@ -18,10 +18,16 @@ use Rattle.class_writer.specs.Writing.{layout}
 use Rattle.mutant_apply.specs.Edited.{with_code, class_with, edited_parts}
 use Rattle.mutant_apply.specs.declared.parts.Parts.{Parts}
 use Rattle.mutant_apply.specs.declared.places.Place.{Place}
+use Rattle.mutant_apply.specs.declared.spliced.Anew.{Anew}
 
 -- The call gave these bytes, or told the bound that is passed first.
 abbrev pub GivesBytes : Result (List ℕ) LayoutFault → Result (List ℕ) LayoutFault → Type 0
 GivesBytes meant result = Gives layout_fault.Memory (λ bytes. bytes) meant result
+
+-- The class passes no bound of the format.
+pub record HasLayout (class : Class) : Type 0 where
+  pub bytes : List ℕ
+  pub is : layout class ≡ Ok bytes
 
 -- The bytes from one place up to another.
 abbrev pub between : ℕ → ℕ → List ℕ → List ℕ
@@ -72,3 +78,14 @@ abbrev pub parts_and_bytes : Class → Edit → Option (Parts × List ℕ)
 parts_and_bytes class edit =
     option_and_then (λ parts. with_bytes parts (layout (class_with edit class parts)))
     (edited_parts edit class)
+
+-- What stands at the two places is made, or told the bound that is passed first, whatever the bytes
+-- around.
+pub record GivesAnew
+    (pool : List Const) (parts : Parts) (member : Member) (result : Result Anew LayoutFault)
+    : Type 0 where
+  pub gives :
+      (pool_end : ℕ) (place : Place) (bytes : List ℕ)
+      → Gives layout_fault.Memory
+      (λ a. spliced pool_end place bytes (to_be_bytes w16 a.count) (drop 2 a.added) a.attrs)
+      (spliced_layout pool_end place bytes pool parts member) result

@@ -28,6 +28,6 @@ pub use refusal::Refusal;
 pub use spelled_laws::{
     apply_laws_are_of_use, edits_are_spelled, mutants_are_spelled, what_is_spelled_is_named,
 };
-pub use spliced::{edited_bytes, parts_and_bytes};
+pub use spliced::{edited_bytes, laid_out_parts, parts_and_bytes};
 pub use tables::long_enough;
 pub use whole::{apply, class_with, edited_parts};

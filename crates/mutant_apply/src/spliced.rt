@@ -1,5 +1,6 @@
 //! Bytes of a class file, with others in the place of those that an edit makes anew.
 
+ghost use Rattle.std.specs.Option.{option_map};
 ghost use Rattle.std.specs.Prelude.{◌≡◌, ◌++◌, slice_get, Some, All, Ok, IfOk, OnOk};
 ghost use Rattle.std.specs.Int.{w16, to_be_bytes};
 ghost use Rattle.class_model.specs.declared.fault.LayoutFault.TheVariants as layout_fault;
@@ -7,10 +8,10 @@ ghost use Rattle.codec_rules.specs.Meets.{Gives};
 ghost use Rattle.mt_pool.specs.Whole.{layout as pool_layout};
 ghost use Rattle.mt_attrs.specs.Layout.{HasAttrForm, attrs_layout};
 ghost use Rattle.class_writer.specs.Writing.{HasClassForm, layout};
-ghost use Rattle.mutant_apply.specs.Edited.{with_code, class_with};
+ghost use Rattle.mutant_apply.specs.Edited.{with_code, class_with, is_laid_out};
 ghost use Rattle.mutant_apply.specs.Fitting.{Fits};
 ghost use Rattle.mutant_apply.specs.Places.{places_of};
-ghost use Rattle.mutant_apply.specs.Spliced.{GivesBytes, spliced, AreOrdered, pool_count, spliced_layout, parts_and_bytes};
+ghost use Rattle.mutant_apply.specs.Spliced.{GivesBytes, GivesAnew, HasLayout, spliced, AreOrdered, pool_count, spliced_layout, parts_and_bytes};
 
 use crate::places::{Place, Places};
 use crate::{Parts, edited_parts, with_code};
@@ -186,4 +187,67 @@ pub fn parts_and_bytes(
         Err(LayoutFault::TooLarge { .. }) => Ok(None),
         Err(LayoutFault::Memory) => Err(Memory),
     }
+}
+
+// ---- without the bytes of the whole
+
+// What stands at the two places of a class file with these parts: the pool's count, the bytes of the
+// added entries behind their own count, and those of the method's attributes.
+#[derive(Drop)]
+struct Anew {
+    count: u16,
+    added: Bytes,
+    attrs: Bytes,
+}
+
+fn anew(
+    alloc: Global,
+    pool: &Seq<Const>,
+    parts: &Parts,
+    member: &Member,
+) -> Result<Anew, LayoutFault>
+    requires { All HasAttrForm (with_code parts.now.code member.now.attrs) }
+    ensures { GivesAnew pool.now parts.now member.now result }
+{
+    let count = pool_count(pool.len(), parts.added.len())?;
+    let added = entry_bytes(alloc, &parts.added)?;
+    let attrs = attrs_with(alloc, &parts.code, &member.attrs)?;
+    Ok(Anew {
+        count,
+        added,
+        attrs,
+    })
+}
+
+// Whether the class with these parts has a layout.
+fn is_laid_out(alloc: Global, class: &Class, edit: &Edit, parts: &Parts) -> Result<bool, Memory>
+    requires laid_out { HasLayout class.now }
+    requires form { HasClassForm (class_with edit.now class.now parts.now) }
+    ensures { IfOk result (λ b. b
+        ≡ is_laid_out (layout (class_with edit.now class.now parts.now))) }
+{
+    let Some(member) = class.methods.get(edit.method as usize) else {
+        return Err(Memory);
+    };
+    match anew(alloc, &class.pool, parts, member) {
+        Ok(_) => Ok(true),
+        Err(LayoutFault::TooLarge { .. }) => Ok(false),
+        Err(LayoutFault::Memory) => Err(Memory),
+    }
+}
+
+/// The parts of a class that an edit makes anew; none exactly where `apply` gives none. The bytes of
+/// the edited class aren't made. Where the class has no method of that number, memory runs out.
+pub fn laid_out_parts(alloc: Global, class: &Class, edit: &Edit) -> Result<Option<Parts>, Memory>
+    requires form { HasClassForm class.now }
+    requires fits { Fits class.now edit.now }
+    requires laid_out { HasLayout class.now }
+    ensures { IfOk result (λ parts. parts
+        ≡ option_map (λ made. made.0) (parts_and_bytes class.now edit.now)) }
+{
+    let Some(parts) = edited_parts(class, edit)? else {
+        return Ok(None);
+    };
+    let laid_out = is_laid_out(alloc, class, edit, &parts)?;
+    if laid_out { Ok(Some(parts)) } else { Ok(None) }
 }
