@@ -36,4 +36,5 @@ pub use linked::{
 pub use loaded::{ClassBody, EditedFile, LibBody, LibClass, LibField, LibMethod, Loaded};
 pub use long_pool::at_place;
 pub use program_rules::{CallKind, Comparison, Conversion, Element, Operation, ShiftKind};
+pub use relinking::edited_method;
 pub use shared::Shared;

@@ -170,6 +170,25 @@ fn relinked_method(
     shared_method(method, body)
 }
 
+/// A method of a class with the body that these attributes give it, where nothing is added to the
+/// class's pool. What isn't edited is shared.
+#[tactic(auto, using(crate::proofs::EditLaws::nothing_behind, crate::proofs::EditLaws::entries_alone))]
+pub fn edited_method(
+    alloc: Global,
+    class: &LinkedClass,
+    pool: &[Const],
+    method: &LinkedMethod,
+    attrs: &[Attr],
+) -> Result<LinkedMethod, Memory>
+    requires { AreEntries class.now.entries pool.now }
+    ensures { IfOk result
+        (HasBody class.now.entries method.now (body_by pool.now attrs.now)) }
+{
+    let entries = class.entries.as_slice();
+    let classes = NamedClasses::new(alloc, pool, &[], entries);
+    relinked_method(alloc, entries, &classes, method, attrs)
+}
+
 // Methods with the body that these attributes give to one of them.
 #[tactic(auto, using(crate::proofs::EditLaws::past_the_end, crate::proofs::EditLaws::body_put, crate::proofs::EditLaws::put_length))]
 fn relinked_methods(
