@@ -17,5 +17,6 @@ mod HeadLaws
 mod CodeLaws
 mod MethodLaws
 mod ClassLaws
+mod KeptLaws
 mod LibraryLaws
 mod ProgramLaws

@@ -15,5 +15,6 @@ pub mod ProgramHeads
 pub mod ProgramTables
 pub mod Methods
 pub mod OneMethod
+pub mod KeptTables
 pub mod Programs
 pub mod Libraries

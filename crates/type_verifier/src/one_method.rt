@@ -1,31 +1,47 @@
 //! The first fault of one method, in a class that may stand in the place of one of a program.
 
-ghost use Rattle.std.specs.Prelude.{◌≡◌, Some, All, IfOk};
+ghost use Rattle.std.specs.Prelude.{◌≡◌, Some, All, IfOk, OnOk};
 ghost use Rattle.class_table.specs.Table.{number_of};
 ghost use Rattle.type_verifier.specs.Pool.{IsOwn};
-ghost use Rattle.type_verifier.specs.ProgramTables.{HasShortCode};
+ghost use Rattle.type_verifier.specs.ProgramTables.{AreTables, HasShortCode};
 ghost use Rattle.type_verifier.specs.OneMethod.{FaultOfFirst, FaultOfOwn, MethodFaultIs};
 
 use crate::classes::is_program;
 use crate::methods::{body_fault, has_right_body};
-use crate::tables::tables_of;
+use crate::tables::{Tables, tables_of};
 use crate::{Fault, Own};
 use class_link::{ClassInfo, LinkedMethod};
 use class_model::{ClassId, Memory};
 use class_table::Program;
 use std::alloc::Global;
 
-// The first fault of a method that is the first of its name and descriptor in its class.
+/// The first fault of a method that is the first of its name and descriptor in its class, by the
+/// tables of that.
+pub fn fault_by(
+    own: &Own,
+    tables: &mut Tables,
+    method: &LinkedMethod,
+) -> Result<Option<Fault>, Memory>
+    requires tables { AreTables own.now tables.old }
+    requires short { HasShortCode method.now }
+    ensures tables { OnOk result (AreTables own.now tables.new) }
+    ensures fault { IfOk result (FaultOfFirst own.now method.now) }
+{
+    if !has_right_body(method) {
+        return Ok(Some(Fault { at: 0, rule: 1 }));
+    }
+    let fault = body_fault(own, tables, method)?;
+    Ok(fault)
+}
+
+// The same by tables that are made for it.
 fn fault_of_first(alloc: Global, own: &Own, method: &LinkedMethod) -> Result<Option<Fault>, Memory>
     requires own { IsOwn own.now }
     requires short { HasShortCode method.now }
     ensures { IfOk result (FaultOfFirst own.now method.now) }
 {
-    if !has_right_body(method) {
-        return Ok(Some(Fault { at: 0, rule: 1 }));
-    }
     let mut tables = tables_of(alloc, own)?;
-    let fault = body_fault(own, &mut tables, method)?;
+    let fault = fault_by(own, &mut tables, method)?;
     Ok(fault)
 }
 
