@@ -18,7 +18,7 @@ use Rattle.class_link.specs.Info.{Info, file_in}
 use Rattle.mutant_apply.specs.Edited.{changed_at, member_with, class_with, applied}
 use Rattle.mutant_apply.specs.declared.parts.Parts.{Parts}
 use Rattle.mutant_apply.specs.BytesLaws.{PartsAreOfApplied}
-use Rattle.mutant_apply.specs.Spliced.{parts_and_bytes}
+use Rattle.mutant_apply.specs.Spliced.{HasLayout, parts_and_bytes}
 use Rattle.mutant_runs.specs.Files.{attrs_in, edited_file, made_file, HasBytes, IsRightFor, IsKeptOf, IsKept}
 use Rattle.mutant_runs.specs.declared.class_bytes.ClassBytes.{ClassBytes}
 
@@ -55,6 +55,18 @@ none_case l edit (Some made) is h = absurd cc
 
 pub none_made : PartsAreOfApplied → (l : Loaded) (edit : Edit) → made_file l edit ≡ None → applied l.class edit ≡ None
 none_made law l edit h = none_case l edit (parts_and_bytes l.class edit) (law l.class edit) h
+
+none_of : {A B : Type 0} (f : A → B) (o : Option A) → None ≡ option_map f o → o ≡ None
+none_of f None e = refl
+none_of f (Some x) e = absurd cc
+
+pub none_parts : PartsAreOfApplied → (class : Class) (edit : Edit) → None ≡ option_map (λ made. made.0) (parts_and_bytes class edit) → applied class edit ≡ None
+none_parts law class edit h =
+    sym (law class edit) ∙ ap (option_map (λ made. (class_with edit class made.0, made.1))) (none_of (λ made. made.0) (parts_and_bytes class edit) h)
+
+-- A class that has a spelling has a layout.
+pub spelled_laid : SpelledIsWritten → (class : Class) → IsClass class → HasLayout class
+spelled_laid law class is = record { bytes = class_bytes class; is = (law (class_bytes class) class (record { form = is; text = refl })).1 }
 
 -- ---- what is kept
 

@@ -13,3 +13,4 @@ mod Keeping
 mod Codes
 mod Differing
 mod Judging
+mod AloneLaws

@@ -6,6 +6,7 @@ pub mod Verdicts
 pub mod Needed
 pub mod Edited
 pub mod Judged
+pub mod Alone
 pub mod Promises
 pub mod Laws
 pub mod Put

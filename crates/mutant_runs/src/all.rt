@@ -24,8 +24,9 @@ pub fn viable(alloc: Global, program: &Program, mutants: &[Mutant]) -> Result<Se
 {
     let mut all = Seq::new(alloc);
     let mut kept = None;
+    let mut tables = None;
     for mutant in mutants {
-        let viable = is_viable(alloc, program, mutant, &mut kept)?;
+        let viable = is_viable(alloc, program, mutant, &mut kept, &mut tables)?;
         all.push(viable)?;
     }
     Ok(all)

@@ -12,8 +12,8 @@ use class_model::{Attr, Bytes, Class, ClassId, Edit, Memory, Seq, SharedBytes};
 use mutant_apply::{Parts, parts_and_bytes, with_code};
 use std::alloc::Global;
 
-// The attributes of the edited method.
-fn edited_attrs(
+/// The attributes of the edited method.
+pub fn edited_attrs(
     alloc: Global,
     class: &Class,
     edit: &Edit,

@@ -7,6 +7,7 @@ mod all;
 mod class_bytes;
 mod covered;
 mod edited_file;
+mod edited_method;
 mod laws;
 mod on_mutant;
 mod one_run;

@@ -4,6 +4,8 @@ ghost use Rattle.std.specs.Prelude.{◌≡◌, ◌+◌, ◌≤◌, ◌<◌, ◌^
 ghost use Rattle.class_link.specs.Info.{IsInfo};
 ghost use Rattle.class_table.specs.Table.{look, IsProgram};
 ghost use Rattle.jvm_run.specs.Below.{AreNamedOf, AreTablesOf};
+ghost use Rattle.type_verifier.specs.KeptTables.{AreKeptTables};
+ghost use Rattle.mutant_runs.specs.Alone.{IsMadeAlone};
 ghost use Rattle.mutant_runs.specs.Edited.{IsEditBy, IsEditOfMutant};
 ghost use Rattle.mutant_runs.specs.Files.{IsKept};
 ghost use Rattle.mutant_runs.specs.Programs.{files_of, IsMutantOf, ComesOf, Makes};
@@ -14,6 +16,8 @@ ghost use Rattle.mutant_runs.specs.Runs.{most_steps};
 
 use crate::class_bytes::ClassBytes;
 use crate::edited_file::edited_file;
+use crate::edited_method::{EditedMethod, edited_method_of};
+use crate::edits_differ_in_one;
 use crate::laws::{
     edited_are_ready, edits_are_judged_by_their_method, edits_make, entries_add_alone,
     ready_may_run,
@@ -21,17 +25,19 @@ use crate::laws::{
 use crate::test_set::TestSet;
 use crate::tests_run::run_tests;
 use crate::verdict::verdict_by;
+use class_link::LinkedMethod;
 use class_model::{ClassId, Memory, Seq};
 use class_table::{ClassBody, ClassInfo, Program, Test};
 use jvm_run::Tables;
 use machine_rules::Limits;
+use method_laws::{edited_methods_stay_first, other_methods_keep_their_faults};
 use mt_edge::MeterPart;
 use mutant_apply::parts_are_of_applied;
 use mutator_ops::{Mutant, Verdict};
 use std::alloc::Global;
 use std::sync::Arc;
 use type_laws::first_faults_are_found;
-use type_verifier::fault_of_method;
+use type_verifier::{ClassTables, fault_in_class, fault_of_method};
 
 // The form of a program is known. Only the prover reads this.
 fn is_program(program: &Program)
@@ -105,8 +111,8 @@ fn is_accepted(
     }
 }
 
-/// Whether a mutant is viable: the class that its edit makes has a layout and is accepted.
-pub fn is_viable(
+// Whether a mutant is viable, by the class that its edit makes.
+fn is_viable_whole(
     alloc: Global,
     program: &Program,
     mutant: &Mutant,
@@ -123,6 +129,65 @@ pub fn is_viable(
     };
     let viable = is_accepted(alloc, program, mutant, id, &edited)?;
     Ok(viable)
+}
+
+// Whether a mutant is viable whose edit makes this method of the class of this number, and nothing
+// else: the method is accepted in that class.
+fn is_accepted_alone(
+    alloc: Global,
+    program: &Program,
+    mutant: &Mutant,
+    id: ClassId,
+    method: &LinkedMethod,
+    tables: &mut Option<ClassTables>,
+) -> Result<bool, Memory>
+    requires ready { IsReady program.now }
+    requires fit { IsMutantOf (files_of program.now) mutant.now }
+    requires made { IsMadeAlone program.now mutant.now id.0 method.now }
+    requires tables { AreKeptTables program.now tables.old }
+    ensures told { IfOk result (TellsViable program.now mutant.now) }
+    ensures tables { OnOk result (AreKeptTables program.now tables.new) }
+{
+    is_program(program);
+    parts_are_of_applied();
+    entries_add_alone();
+    edits_differ_in_one();
+    edits_make();
+    edits_are_judged_by_their_method();
+    edited_methods_stay_first();
+    other_methods_keep_their_faults();
+    let fault = fault_in_class(alloc, program, id, method, tables)?;
+    match fault {
+        Some(_fault) => Ok(false),
+        None => Ok(true),
+    }
+}
+
+/// Whether a mutant is viable: the class that its edit makes has a layout and is accepted. That
+/// class is made only where the edit adds to its pool.
+pub fn is_viable(
+    alloc: Global,
+    program: &Program,
+    mutant: &Mutant,
+    kept: &mut Option<ClassBytes>,
+    tables: &mut Option<ClassTables>,
+) -> Result<bool, Memory>
+    requires ready { IsReady program.now }
+    requires fit { IsMutantOf (files_of program.now) mutant.now }
+    requires kept { IsKept program.now kept.old }
+    requires tables { AreKeptTables program.now tables.old }
+    ensures told { IfOk result (TellsViable program.now mutant.now) }
+    ensures kept { OnOk result (IsKept program.now kept.new) }
+    ensures tables { OnOk result (AreKeptTables program.now tables.new) }
+{
+    let made = edited_method_of(alloc, program, mutant)?;
+    match made {
+        EditedMethod::NoLayout => Ok(false),
+        EditedMethod::Alone(id, method) => {
+            is_accepted_alone(alloc, program, mutant, id, &method, tables)
+        }
+        EditedMethod::Adds => is_viable_whole(alloc, program, mutant, kept),
+    }
 }
 
 // The verdict on a mutant by the tests of these numbers, which cover it, on this program, which it
