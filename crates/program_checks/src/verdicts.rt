@@ -1,19 +1,20 @@
 //! Calls of `type_verifier` for programs, over which wrong bodies are tried, with their contracts.
 
-ghost use Rattle.std.specs.Prelude.{◌≡◌, true, All, Err, Some, IfOk, OnOk};
+ghost use Rattle.std.specs.Prelude.{◌≡◌, ◌<◌, true, length, All, Err, Some, IfOk, OnOk};
 ghost use Rattle.type_rules.specs.Rules.{Accepted};
 ghost use Rattle.class_table.specs.Table.{look, number_of};
+ghost use Rattle.type_verifier.specs.KeptTables.{AreKeptTables, FaultInClass};
 ghost use Rattle.type_verifier.specs.OneMethod.{MethodFaultIs};
 ghost use Rattle.type_verifier.specs.ProgramTables.{HasShortCode};
 ghost use Rattle.type_verifier.specs.Programs.{AreNumbered, IsFirstRefused, IsLibraryAccepted};
 ghost use Rattle.type_verifier.specs.declared.end.VerifyFault.{VerifyFault};
 ghost use Rattle.type_verifier.specs.declared.end.VerifyEnd.TheVariants.{Refused};
 
-use class_link::ClassInfo;
+use class_link::{ClassInfo, LinkedMethod};
 use class_model::{ClassId, Memory};
 use class_table::Program;
 use std::alloc::Global;
-use type_verifier::{Fault, VerifyEnd};
+use type_verifier::{ClassTables, Fault, VerifyEnd};
 
 /// `type_verifier::verify`
 pub fn verify(alloc: Global, program: &Program) -> Result<(), VerifyEnd>
@@ -40,6 +41,24 @@ pub fn fault_of_method(
 {
     let fault = type_verifier::fault_of_method(alloc, program, id, class, place)?;
     Ok(fault)
+}
+
+/// `type_verifier::fault_in_class`
+pub fn fault_in_class(
+    alloc: Global,
+    program: &Program,
+    id: ClassId,
+    method: &LinkedMethod,
+    kept: &mut Option<ClassTables>,
+) -> Result<Option<Fault>, Memory>
+    requires within { id.0 < length program.now }
+    requires short { HasShortCode method.now }
+    requires kept { AreKeptTables program.now kept.old }
+    ensures fault { IfOk result (FaultInClass program.now id.0 method.now) }
+    ensures kept { OnOk result (AreKeptTables program.now kept.new) }
+{
+    let found = type_verifier::fault_in_class(alloc, program, id, method, kept)?;
+    Ok(found)
 }
 
 /// Whether all code of a program is accepted, of which nothing is known: what `is_numbered` and
