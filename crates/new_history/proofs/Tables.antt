@@ -1,14 +1,16 @@
 -- Slices by number, with one more.
-use Rattle.std.proofs.Common.{◌≡◌, ◌∙◌, ◌⊎◌, ⊎_elim, inl, inr, ℕ, zero, suc, ◌+◌, ◌<◌, ◌^◌, Bool, true, false, List, [], ◌∷◌, ◌++◌, length, take, drop, get_or, Option, Some, None, is_some, refl, sym, ap, subst, arith, lit<}
+use Rattle.std.proofs.Common.{◌≡◌, ◌∙◌, ◌⊎◌, ⊎_elim, inl, inr, ℕ, zero, suc, ◌+◌, ◌<◌, ◌^◌, Bool, true, false, List, [], ◌∷◌, ◌++◌, length, take, drop, get_or, map, Option, Some, None, is_some, refl, sym, ap, subst, arith, lit<}
 use Rattle.std.specs.Prelude.{slice_get, if◌then◌else◌}
-use Rattle.std.proofs.lemmas.List.{take_more, take-append-drop, length_push, length-take-le}
+use Rattle.std.specs.Option.{option_map_or}
+use Rattle.std.proofs.lemmas.List.{take_more, take-append-drop, length-map, length_push, length-take-le}
 use Rattle.std.proofs.lemmas.List.Elements.{All-nil, All-push}
 use Rattle.std.proofs.lemmas.Option.{same_Some, slice_get_within, slice_get-get_or}
 use Rattle.program_rules.specs.Names.{same}
 use Rattle.history_rules.proofs.Pools.{bytes_are, same_self}
 use Rattle.history_file.specs.Texts.{number_in}
 use Rattle.history_file.proofs.Numbers.{number_more, text_at_number, get_kept}
-use Rattle.new_history.specs.Numbering.{Once, IsTable, with_slice}
+use Rattle.new_history.specs.declared.class_numbers.ClassNumbers.{ClassNumbers}
+use Rattle.new_history.specs.Numbering.{AreClasses, Once, IsTable, classes_by, is_fresh_at, known_by, with_slice}
 
 pub put_known : (xs : List (List ℕ)) (x : List ℕ) (k : ℕ) → number_in xs x ≡ Some k → with_slice xs x ≡ xs
 put_known xs x k e = ap (λ (o : Option ℕ). if is_some o then xs else xs ++ x ∷ []) e
@@ -79,3 +81,22 @@ unseen all i d once lt = by (number_in (take i all) (get_or all i d)) refl
 
 pub seed_step : (all : List (List ℕ)) (i : ℕ) (d : List ℕ) → Once all → i < length all → with_slice (take i all) (get_or all i d) ≡ take (i + 1) all
 seed_step all i d once lt = put_fresh (take i all) (get_or all i d) (unseen all i d once lt) ∙ sym (take_more all i d lt)
+
+-- ---- a class that is looked for at a place first
+
+get_behind : {A : Type 0} (xs ys : List A) (k : ℕ) → slice_get (xs ++ ys) (length xs + k) ≡ slice_get ys k
+get_behind [] ys k = refl
+get_behind (x ∷ xs) ys k =
+    let e : suc (length xs) + k ≡ suc (length xs + k) = omega arith in
+    ap (slice_get (x ∷ (xs ++ ys))) e ∙ get_behind xs ys k
+
+fresh_case : (o : Option (List ℕ)) (class : List ℕ) → option_map_or (λ x. same x class) o false ≡ true → o ≡ Some class
+fresh_case None class e = absurd cc
+fresh_case (Some x) class e = ap Some (bytes_are x class e)
+
+pub number_fresh : (n : ClassNumbers) (place : ℕ) (class : List ℕ) → AreClasses n → is_fresh_at n place class ≡ true → Some (length n.known + place) ≡ number_in (classes_by n) class
+number_fresh n place class t e =
+    let long = length-map n.known (λ s. s.now) in
+    let at : length n.known + place ≡ length (known_by n) + place = omega (arith, long) in
+    let there : slice_get (classes_by n) (length n.known + place) ≡ Some class = ap (slice_get (classes_by n)) at ∙ get_behind (known_by n) n.fresh place ∙ fresh_case (slice_get n.fresh place) class e in
+    sym (t.once (length n.known + place) class there)

@@ -1,13 +1,14 @@
 -- Names and classes by number: those of an old history have its numbers, and others come behind
 -- them (this project's own).
 use Rattle.std.specs.Prelude.{◌≡◌, ◌≤◌, ◌<◌, ◌+◌, ◌^◌, ℕ, List, [], ◌∷◌, ◌++◌, length, map, Option}
-use Rattle.std.specs.Prelude.{Some, None, is_some, slice_get, All, if◌then◌else◌}
+use Rattle.std.specs.Prelude.{Some, None, is_some, slice_get, All, if◌then◌else◌, Bool, false}
+use Rattle.std.specs.Option.{option_map_or}
 use Rattle.std.specs.BTreeMap as tree
 use Rattle.std.specs.Cmp.Lexicographic.{slice_cmp}
 use Rattle.std.specs.Ordering.{nat_cmp}
 use Rattle.class_model.specs.Text.{IsUnits}
 use Rattle.class_model.specs.declared.outcome.Outcome.{Outcome}
-use Rattle.program_rules.specs.Names.{Name}
+use Rattle.program_rules.specs.Names.{Name, same}
 use Rattle.record_rules.specs.declared.record.RunRecord.{RunRecord}
 use Rattle.history_rules.specs.Classes.{class_of}
 use Rattle.history_rules.specs.Entries as history
@@ -73,6 +74,10 @@ classes_by n = known_by n ++ n.fresh
 
 abbrev pub class_number : ClassNumbers → List ℕ → Option ℕ
 class_number n q = tree.get_by (λ k. slice_cmp nat_cmp q k.now) n.numbers
+
+-- Whether this is the class at a place among those that the old history lacks.
+abbrev pub is_fresh_at : ClassNumbers → ℕ → List ℕ → Bool
+is_fresh_at n place class = option_map_or (λ x. same x class) (slice_get n.fresh place) false
 
 abbrev pub IsShort : List ℕ → Type 0
 IsShort class = length class < 2 ^ 32

@@ -13,11 +13,33 @@ use class_model::{Cause, Memory, Name, Outcome, Seq, SharedBytes};
 use history_file::{End, Entry};
 use std::alloc::Global;
 
-/// Names and classes by number.
+/// Names and classes by number; and by the number of a name at which place a class is looked for
+/// first: the one that the name had last.
 #[derive(Drop)]
 pub struct Numbering<'n> {
     pub names: NameNumbers<'n>,
     pub classes: ClassNumbers<'n>,
+    pub recent: Vec<u32>,
+}
+
+// At which place a class of the name of this number is looked for first.
+fn recent_of(recent: &[u32], name: u32) -> u32 {
+    match recent.get(name as usize) {
+        Some(place) => *place,
+        None => 0,
+    }
+}
+
+// From now on it is this place.
+fn keep_recent(recent: &mut Vec<u32>, name: u32, place: u32) -> Result<(), Memory> {
+    let at = name as usize;
+    for _ in recent.len()..at + 1 {
+        recent.push(0)?;
+    }
+    if at < recent.len() {
+        recent[at] = place;
+    }
+    Ok(())
 }
 
 impl<'n> Numbering<'n> {
@@ -36,7 +58,11 @@ impl<'n> Numbering<'n> {
     {
         let names = NameNumbers::of(alloc, names)?;
         let classes = ClassNumbers::of(alloc, classes)?;
-        Ok(Numbering { names, classes })
+        Ok(Numbering {
+            names,
+            classes,
+            recent: Vec::new(alloc),
+        })
     }
 
     /// The number of a name.
@@ -92,7 +118,10 @@ impl<'n> Numbering<'n> {
         ensures { IfOk result (NumbersEntry entry.now self.old self.new) }
     {
         let name = self.name(&entry.0)?;
-        let class = self.classes.number(&entry.1)?;
+        let first = recent_of(self.recent.as_slice(), name);
+        let class = self.classes.number(&entry.1, first)?;
+        let place = self.classes.fresh_place(class);
+        keep_recent(&mut self.recent, name, place)?;
         Ok(Entry { name, class })
     }
 
@@ -119,7 +148,11 @@ impl<'n> Numbering<'n> {
     pub fn into_fresh(self) -> Seq<SharedBytes>
         ensures { result ≡ self.entry.classes.fresh }
     {
-        let Numbering { names: _, classes } = self;
+        let Numbering {
+            names: _,
+            classes,
+            recent: _,
+        } = self;
         classes.into_fresh()
     }
 }

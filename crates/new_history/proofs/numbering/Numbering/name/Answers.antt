@@ -5,5 +5,5 @@ use Rattle.new_history.proofs.numbering.Numbering.name.Goals as goal
 
 pub returns : goal.returns
 returns c =
-    let new : Numbering = record { names = c.number.new.self; classes = c.args.self.now.classes } in
+    let new : Numbering = record { names = c.number.new.self; classes = c.args.self.now.classes; recent = c.args.self.now.recent } in
     name_put c.args.self.now new c.args.name.now c.in_ok-number.number c.requires.known refl c.in_ok-number.ensures
