@@ -200,7 +200,7 @@ struct Anew {
     attrs: Bytes,
 }
 
-fn anew(
+fn made_anew(
     alloc: Global,
     pool: &Seq<Const>,
     parts: &Parts,
@@ -229,7 +229,7 @@ fn is_laid_out(alloc: Global, class: &Class, edit: &Edit, parts: &Parts) -> Resu
     let Some(member) = class.methods.get(edit.method as usize) else {
         return Err(Memory);
     };
-    match anew(alloc, &class.pool, parts, member) {
+    match made_anew(alloc, &class.pool, parts, member) {
         Ok(_) => Ok(true),
         Err(LayoutFault::TooLarge { .. }) => Ok(false),
         Err(LayoutFault::Memory) => Err(Memory),
