@@ -1,6 +1,6 @@
 -- The class that an edit makes where it adds nothing to the pool, and the edited method in the class
 -- that is edited.
-use Rattle.std.proofs.Common.{◌≡◌, ◌∙◌, sym, refl, ap, subst, ℕ, true, false, List, [], ◌++◌, map, Option, None, Some, slice_get, IfSome}
+use Rattle.std.proofs.Common.{◌≡◌, ◌∙◌, sym, refl, ap, subst, ℕ, true, false, List, [], ◌++◌, map, Option, None, Some, Result, Ok, Err, slice_get, IfSome, OnOk}
 use Rattle.std.specs.Prelude.{is_none, option_and_then, slice_set}
 use Rattle.std.specs.Option.{option_map}
 use Rattle.std.proofs.lemmas.List.{append-nil}
@@ -53,6 +53,11 @@ use Rattle.mutant_runs.proofs.Codes.{method_seen, methods_short}
 use Rattle.mutant_runs.proofs.Judging.{viable_told}
 use Rattle.mutant_runs.proofs.ProgramLaws.{edit_of, set_same}
 use Rattle.mutant_runs.proofs.Putting.{all_at}
+
+-- What is known before a call is known where it gives.
+pub known_anyhow : {A E : Type 0} (r : Result A E) (K : Type 0) → K → OnOk r K
+known_anyhow (Ok v) K k = k
+known_anyhow (Err e) K k = record {}
 
 -- ---- the class that the edit makes
 

@@ -1,9 +1,13 @@
 use Rattle.std.proofs.Common.{subst, Option}
 use Rattle.std.specs.Prelude.{is_none}
 use Rattle.type_verifier.specs.declared.pass.Fault.{Fault}
+use Rattle.class_table.proofs.Places.{number_within}
 use Rattle.mutant_runs.specs.Promises.{TellsViable}
 use Rattle.mutant_runs.proofs.AloneLaws.{short, told_alone}
 use Rattle.mutant_runs.proofs.on_mutant.is_accepted_alone.Goals as goal
+
+pub fault_in_class-requires-clause-within : goal.fault_in_class-requires-clause-within
+fault_in_class-requires-clause-within c = number_within c.args.program.now c.args.mutant.now.class c.args.id.0 c.requires.made.edit.number
 
 pub fault_in_class-requires-clause-short : goal.fault_in_class-requires-clause-short
 fault_in_class-requires-clause-short c =
