@@ -18,6 +18,7 @@ returns c =
     let there : slice_get c.args.class.now.methods c.args.edit.now.method ≡ Some c.in-Some.member.now = search rules in
     let P : Result Bool Memory → Type 0 = λ r. IfOk r (λ b. b ≡ is_laid_out (layout (class_with c.args.edit.now c.args.class.now c.args.parts.now))) in
     elim c.match-made_anew.branch [
-      in-Ok w ↦ subst P (sym w.result-is) (sym (laid_ok c.args.class.now c.args.edit.now c.args.parts.now c.in-Some.member.now c.requires.laid_out there c.made_anew.result c.made_anew.ensures w.in-Ok.field-0 w.in-Ok.is))
-    | in-Err-TooLarge w ↦ subst P (sym w.result-is) (sym (laid_large c.args.class.now c.args.edit.now c.args.parts.now c.in-Some.member.now c.requires.laid_out there c.made_anew.result c.made_anew.ensures w.in-Err-TooLarge.field-0-0 (w.in-Err-TooLarge.is ∙ ap Err w.in-Err-TooLarge.field-0-is)))
-    | in-Err-Memory w ↦ subst P (sym w.result-is) (record {}) ]
+      | in-Ok w ↦ subst P (sym w.result-is) (sym (laid_ok c.args.class.now c.args.edit.now c.args.parts.now c.in-Some.member.now c.requires.laid_out there c.made_anew.result c.made_anew.ensures w.in-Ok.field-0 w.in-Ok.is))
+      | in-Err-TooLarge w ↦ subst P (sym w.result-is) (sym (laid_large c.args.class.now c.args.edit.now c.args.parts.now c.in-Some.member.now c.requires.laid_out there c.made_anew.result c.made_anew.ensures w.in-Err-TooLarge.field-0-0 (w.in-Err-TooLarge.is ∙ ap Err w.in-Err-TooLarge.field-0-is)))
+      | in-Err-Memory w ↦ subst P (sym w.result-is) (record {})
+    ]
