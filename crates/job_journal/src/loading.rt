@@ -34,7 +34,7 @@ fn load_text<K: Keeper>(alloc: Global, keeper: &mut K) -> Result<JournalRead, Jo
     match read_journal(alloc, PROFILE_NUMBER, bytes.as_slice()) {
         Ok(read) => Ok(read),
         Err(HistoryFault::HistoryBad { at }) => Err(JournalFault::HistoryBad { at }),
-        Err(HistoryFault::TooLong { .. }) => Err(JournalFault::Memory),
+        Err(HistoryFault::TooLong { .. }) => unreachable!(),
         Err(HistoryFault::Memory) => Err(JournalFault::Memory),
     }
 }

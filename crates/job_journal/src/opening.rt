@@ -1,7 +1,7 @@
 //! Why a journal can't be opened.
 
 /// Why a journal can't be opened.
-#[derive(Clone, Copy, Debug, PartialEq, Eq)]
+#[derive(Clone, Copy)]
 pub enum JournalFault {
     /// The keeper failed to load it, and its count of such faults rose.
     Load,
